@@ -9,11 +9,13 @@ mod explained;
 mod measures;
 mod nested;
 mod pages;
+mod raws;
 mod reading;
 mod round;
 mod shapes;
 mod shown;
 mod texts;
+mod trees;
 mod typed;
 mod written;
 

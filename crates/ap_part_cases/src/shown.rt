@@ -2,14 +2,14 @@
 
 use crate::nested::nest_shown;
 use crate::reading::{items_of, tokens_of};
+use crate::trees::{push_form, push_tree, push_type};
 use crate::typed::typed_shown;
 use crate::written::part_shown;
 use ap_defs::faults::SyntaxFault;
 use ap_lexer::{Token, TokenKind};
 use ap_syntax::SynError;
-use ap_trees::{Item, ReadError, symbols_of, whole_term, whole_type};
+use ap_trees::{Item, ReadError, Tree, TypeTree, symbols_of, whole_term, whole_type};
 use std::alloc::{AllocError, Global};
-use std::fmt::Debug;
 
 /// What is shown of a text.
 #[derive(Clone, Copy, Debug)]
@@ -54,12 +54,15 @@ fn tokens_shown(alloc: Global, text: &str) -> Result<String, SynError> {
 
 /// An item as its line and what it says.
 fn push_item(alloc: Global, out: &mut String, item: &Item<'_>) -> Result<(), AllocError> {
-    let (line, form) = (item.line, &item.form);
-    out.push_str(format!(in alloc; "{line} {form:?};")?.as_str())?;
+    let line = item.line;
+    out.push_str(format!(in alloc; "{line} ")?.as_str())?;
+    push_form(alloc, out, &item.form)?;
+    out.push_str(";")?;
     Ok(())
 }
 
-fn items_shown(alloc: Global, text: &str) -> Result<String, SynError> {
+/// The items of a text.
+pub fn items_shown(alloc: Global, text: &str) -> Result<String, SynError> {
     let tokens = tokens_of(alloc, text.as_bytes())?;
     let items = items_of(alloc, &tokens)?;
     let mut out = String::new(alloc);
@@ -69,13 +72,28 @@ fn items_shown(alloc: Global, text: &str) -> Result<String, SynError> {
     Ok(out)
 }
 
-/// A tree, or `none` where there is none.
-fn tree_shown<T: Debug + Drop>(
+fn tree_shown(alloc: Global, read: Result<Tree<'_>, ReadError>) -> Result<String, AllocError> {
+    match read {
+        Ok(tree) => {
+            let mut out = String::new(alloc);
+            push_tree(alloc, &mut out, &tree)?;
+            Ok(out)
+        }
+        Err(ReadError::Grammar) => "none".to_string(alloc),
+        Err(ReadError::Memory) => Err(AllocError),
+    }
+}
+
+fn type_tree_shown(
     alloc: Global,
-    read: Result<T, ReadError>,
+    read: Result<TypeTree<'_>, ReadError>,
 ) -> Result<String, AllocError> {
     match read {
-        Ok(tree) => format!(in alloc; "{tree:?}"),
+        Ok(tree) => {
+            let mut out = String::new(alloc);
+            push_type(alloc, &mut out, &tree)?;
+            Ok(out)
+        }
         Err(ReadError::Grammar) => "none".to_string(alloc),
         Err(ReadError::Memory) => Err(AllocError),
     }
@@ -90,7 +108,7 @@ fn term_shown(alloc: Global, text: &str) -> Result<String, SynError> {
 fn type_shown(alloc: Global, text: &str) -> Result<String, SynError> {
     let tokens = tokens_of(alloc, text.as_bytes())?;
     let symbols = symbols_of(alloc, &tokens)?;
-    Ok(tree_shown(alloc, whole_type(alloc, &symbols))?)
+    Ok(type_tree_shown(alloc, whole_type(alloc, &symbols))?)
 }
 
 /// A fault as its item, its line and its kind.

@@ -1,5 +1,6 @@
 //! Typed programs: the clauses and queries with their identifiers.
 
+use crate::raws::{push_kind, push_raw_goal, push_raws};
 use crate::reading::{items_of, tokens_of};
 use ap_defs::goals::{Clause, Local, Program, Query};
 use ap_defs::limits::SIZE_LIMIT;
@@ -12,22 +13,24 @@ use std::alloc::{AllocError, Global};
 /// Identifiers with their kinds.
 fn push_locals(alloc: Global, out: &mut String, locals: &[Local]) -> Result<(), AllocError> {
     for local in locals {
-        let (text, kind, bound) = (local.text.as_str(), &local.kind, local.bound);
-        out.push_str(format!(in alloc; " {text}:{kind:?}:{bound}")?.as_str())?;
+        let (text, bound) = (local.text.as_str(), local.bound);
+        out.push_str(format!(in alloc; " {text}:")?.as_str())?;
+        push_kind(alloc, out, &local.kind)?;
+        out.push_str(format!(in alloc; ":{bound}")?.as_str())?;
     }
     out.push_str(";")?;
     Ok(())
 }
 
 fn push_clause(alloc: Global, out: &mut String, clause: &Clause<Raw>) -> Result<(), AllocError> {
-    let (args, body) = (&clause.args, &clause.body);
-    out.push_str(format!(in alloc; "{args:?} {body:?}")?.as_str())?;
+    push_raws(alloc, out, &clause.args)?;
+    out.push_str(" ")?;
+    push_raw_goal(alloc, out, &clause.body)?;
     push_locals(alloc, out, clause.locals.items())
 }
 
 fn push_query(alloc: Global, out: &mut String, query: &Query<Raw>) -> Result<(), AllocError> {
-    let goal = &query.goal;
-    out.push_str(format!(in alloc; "{goal:?}")?.as_str())?;
+    push_raw_goal(alloc, out, &query.goal)?;
     push_locals(alloc, out, query.locals.items())
 }
 

@@ -1,6 +1,7 @@
 //! Parts of an item that are written, and are read again.
 
 use crate::reading::{items_of, tokens_of};
+use crate::shown::items_shown;
 use ap_defs::memory::Memory;
 use ap_syntax::SynError;
 use ap_trees::{Form, Item};
@@ -43,13 +44,6 @@ fn item_with(alloc: Global, part: Part, text: &str) -> Result<String, AllocError
     }
 }
 
-/// The items of a text, as they are debugged.
-fn debugged(alloc: Global, text: &str) -> Result<String, SynError> {
-    let tokens = tokens_of(alloc, text.as_bytes())?;
-    let items = items_of(alloc, &tokens)?;
-    Ok(format!(in alloc; "{items:?}")?)
-}
-
 /// What is written of the part of a text's item.
 fn part_of(alloc: Global, text: &str) -> Result<Option<(Part, Vec<u8>)>, SynError> {
     let tokens = tokens_of(alloc, text.as_bytes())?;
@@ -63,7 +57,7 @@ fn part_of(alloc: Global, text: &str) -> Result<Option<(Part, Vec<u8>)>, SynErro
 /// Whether an item with this part reads as a text does.
 fn reads_same(alloc: Global, text: &str, part: Part, written: &str) -> Result<bool, SynError> {
     let item = item_with(alloc, part, written)?;
-    Ok(debugged(alloc, text)? == debugged(alloc, &item)?)
+    Ok(items_shown(alloc, text)? == items_shown(alloc, &item)?)
 }
 
 /// What is written of the part of a text's item, if it is read as the same again.
