@@ -48,7 +48,13 @@ fn push_raw(alloc: Global, out: &mut String, term: &Raw) -> Result<(), AllocErro
         Raw::Unit => out.push_str("Unit")?,
         Raw::Name(a) => out.push_str(format!(in alloc; "Name({a:?})")?.as_str())?,
         Raw::Var(x) => out.push_str(format!(in alloc; "Var({x:?})")?.as_str())?,
-        Raw::Pair(left, right) => push_two(alloc, out, "Pair", left, right)?,
+        Raw::Pair(left, right) => {
+            out.push_str("Pair(")?;
+            push_raw(alloc, out, left)?;
+            out.push_str(", ")?;
+            push_raw(alloc, out, right)?;
+            out.push_str(")")?;
+        }
         Raw::App(f, argument) => {
             out.push_str(format!(in alloc; "App({f}, ")?.as_str())?;
             push_raw(alloc, out, argument)?;
@@ -59,8 +65,7 @@ fn push_raw(alloc: Global, out: &mut String, term: &Raw) -> Result<(), AllocErro
     Ok(())
 }
 
-/// Two terms as the parts of a constructor.
-#[cycle(raws)]
+/// Two terms as the parts of a goal.
 fn push_two(
     alloc: Global,
     out: &mut String,
@@ -90,25 +95,7 @@ pub fn push_raws(alloc: Global, out: &mut String, terms: &List<Raw>) -> Result<(
     Ok(())
 }
 
-#[cycle(raw_goals)]
-fn push_both(
-    alloc: Global,
-    out: &mut String,
-    name: &str,
-    left: &Goal<Raw>,
-    right: &Goal<Raw>,
-) -> Result<(), AllocError> {
-    out.push_str(name)?;
-    out.push_str("(")?;
-    push_raw_goal(alloc, out, left)?;
-    out.push_str(", ")?;
-    push_raw_goal(alloc, out, right)?;
-    out.push_str(")")?;
-    Ok(())
-}
-
 /// A goal.
-#[cycle(raw_goals)]
 pub fn push_raw_goal(alloc: Global, out: &mut String, goal: &Goal<Raw>) -> Result<(), AllocError> {
     match goal {
         Goal::True => out.push_str("True")?,
@@ -119,8 +106,20 @@ pub fn push_raw_goal(alloc: Global, out: &mut String, goal: &Goal<Raw>) -> Resul
         }
         Goal::Equal(left, right) => push_two(alloc, out, "Equal", left, right)?,
         Goal::Fresh(left, right) => push_two(alloc, out, "Fresh", left, right)?,
-        Goal::Both(left, right) => push_both(alloc, out, "Both", left, right)?,
-        Goal::Either(left, right) => push_both(alloc, out, "Either", left, right)?,
+        Goal::Both(left, right) => {
+            out.push_str("Both(")?;
+            push_raw_goal(alloc, out, left)?;
+            out.push_str(", ")?;
+            push_raw_goal(alloc, out, right)?;
+            out.push_str(")")?;
+        }
+        Goal::Either(left, right) => {
+            out.push_str("Either(")?;
+            push_raw_goal(alloc, out, left)?;
+            out.push_str(", ")?;
+            push_raw_goal(alloc, out, right)?;
+            out.push_str(")")?;
+        }
         Goal::Exists(x, body) => {
             out.push_str(format!(in alloc; "Exists({x:?}, ")?.as_str())?;
             push_raw_goal(alloc, out, body)?;

@@ -26,24 +26,6 @@ fn push_sides(alloc: Global, out: &mut String, sides: &Sides<'_>) -> Result<(), 
     Ok(())
 }
 
-/// Two terms as the parts of a constructor.
-#[cycle(trees)]
-fn push_terms(
-    alloc: Global,
-    out: &mut String,
-    name: &str,
-    left: &Tree<'_>,
-    right: &Tree<'_>,
-) -> Result<(), AllocError> {
-    out.push_str(name)?;
-    out.push_str("(")?;
-    push_tree(alloc, out, left)?;
-    out.push_str(", ")?;
-    push_tree(alloc, out, right)?;
-    out.push_str(")")?;
-    Ok(())
-}
-
 #[cycle(trees)]
 fn push_args(alloc: Global, out: &mut String, args: &Args<'_>) -> Result<(), AllocError> {
     match args {
@@ -114,11 +96,40 @@ pub fn push_tree(alloc: Global, out: &mut String, tree: &Tree<'_>) -> Result<(),
         Tree::Var(word) => push_worded(alloc, out, "Var", word),
         Tree::Word(word) => push_worded(alloc, out, "Word", word),
         Tree::Apply(word, args) => push_applied(alloc, out, word, args),
-        Tree::Pair(left, right) => push_terms(alloc, out, "Pair", left, right),
-        Tree::Cell(left, right) => push_terms(alloc, out, "Cell", left, right),
+        Tree::Pair(left, right) => {
+            out.push_str("Pair(")?;
+            push_tree(alloc, out, left)?;
+            out.push_str(", ")?;
+            push_tree(alloc, out, right)?;
+            Ok(out.push_str(")")?)
+        }
+        Tree::Cell(left, right) => {
+            out.push_str("Cell(")?;
+            push_tree(alloc, out, left)?;
+            out.push_str(", ")?;
+            push_tree(alloc, out, right)?;
+            Ok(out.push_str(")")?)
+        }
         Tree::Abs(binder, body) => push_within(alloc, out, binder, body),
         Tree::Swapped(sides, body) => push_swapped(alloc, out, sides, body),
     }
+}
+
+/// Two terms as the parts of a goal.
+fn push_terms(
+    alloc: Global,
+    out: &mut String,
+    name: &str,
+    left: &Tree<'_>,
+    right: &Tree<'_>,
+) -> Result<(), AllocError> {
+    out.push_str(name)?;
+    out.push_str("(")?;
+    push_tree(alloc, out, left)?;
+    out.push_str(", ")?;
+    push_tree(alloc, out, right)?;
+    out.push_str(")")?;
+    Ok(())
 }
 
 /// A type.
@@ -175,24 +186,6 @@ fn push_trees(alloc: Global, out: &mut String, trees: &List<Tree<'_>>) -> Result
     Ok(())
 }
 
-/// A goal and what stands round it.
-#[cycle(goals)]
-fn push_goals(
-    alloc: Global,
-    out: &mut String,
-    name: &str,
-    left: &GoalTree<'_>,
-    right: &GoalTree<'_>,
-) -> Result<(), AllocError> {
-    out.push_str(name)?;
-    out.push_str("(")?;
-    push_goal(alloc, out, left)?;
-    out.push_str(", ")?;
-    push_goal(alloc, out, right)?;
-    out.push_str(")")?;
-    Ok(())
-}
-
 #[cycle(goals)]
 fn push_bound(
     alloc: Global,
@@ -225,8 +218,20 @@ fn push_goal(alloc: Global, out: &mut String, goal: &GoalTree<'_>) -> Result<(),
         GoalTree::Atom(word, args) => push_atom(alloc, out, word, args),
         GoalTree::Equal(left, right) => push_terms(alloc, out, "Equal", left, right),
         GoalTree::Fresh(left, right) => push_terms(alloc, out, "Fresh", left, right),
-        GoalTree::Both(left, right) => push_goals(alloc, out, "Both", left, right),
-        GoalTree::Either(left, right) => push_goals(alloc, out, "Either", left, right),
+        GoalTree::Both(left, right) => {
+            out.push_str("Both(")?;
+            push_goal(alloc, out, left)?;
+            out.push_str(", ")?;
+            push_goal(alloc, out, right)?;
+            Ok(out.push_str(")")?)
+        }
+        GoalTree::Either(left, right) => {
+            out.push_str("Either(")?;
+            push_goal(alloc, out, left)?;
+            out.push_str(", ")?;
+            push_goal(alloc, out, right)?;
+            Ok(out.push_str(")")?)
+        }
         GoalTree::Exists(word, body) => push_bound(alloc, out, "Exists", word, body),
         GoalTree::New(word, body) => push_bound(alloc, out, "New", word, body),
     }
