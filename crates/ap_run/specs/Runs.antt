@@ -8,7 +8,7 @@ use Rattle.ap_report.specs.TextReport.{IsTextReport, run_report}
 use Rattle.ap_words.specs.declared.Asked.{Asked}
 use Rattle.ap_words.specs.declared.Asked.TheVariants as asked
 use Rattle.ap_words.specs.Words.{asked_of}
-use Rattle.ap_run.specs.declared.wanted.Wanted.{Wanted}
+use Rattle.ap_run.specs.declared.wants.Wanted.{Wanted}
 use Rattle.ap_run.specs.Inputs.{Input, IsReportOn, Whole, line}
 
 -- what is wanted of a run, where the words ask for one

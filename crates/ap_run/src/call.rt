@@ -9,7 +9,7 @@ ghost use Rattle.ap_run.specs.Writing.{IsRead, IsReportWritten, IsUnwritten};
 use crate::lines::line;
 use crate::putting::put;
 use crate::running::report_run;
-use crate::wanted::wanted;
+use crate::wants::wanted_run;
 use ap_defs::memory::Memory;
 use ap_io::{Gate, Sink, Source};
 use ap_report::{Report, Status};
@@ -34,7 +34,7 @@ fn report<R: Threads + Wait + Sync, S: Source, G: Gate>(
         IsRead (S.left source.old) (S.faults source.old) (S.faults source.new) input)
         × IsTheRunReport (map string_bytes words.now) input r) }
 {
-    match wanted(ap_words::read(alloc, words)?) {
+    match wanted_run(ap_words::read(alloc, words)?) {
         Some(run) => report_run(rt, alloc, gate, run.depth, run.workers, run.limit, source),
         None => line(alloc, "% usage fault\n", Status::Usage),
     }

@@ -18,7 +18,7 @@ pub struct Wanted {
 }
 
 /// What is wanted of a run, where one is asked for.
-pub fn wanted(asked: Option<Asked>) -> Option<Wanted>
+pub fn wanted_run(asked: Option<Asked>) -> Option<Wanted>
     ensures { result ≡ wanted_by asked }
 {
     match asked {
