@@ -8,7 +8,7 @@ use ap_io::{Failed, Source};
 use std::alloc::{AllocError, Global};
 
 /// Why the bytes of a source weren't read whole.
-#[derive(Clone, Copy, PartialEq, Eq)]
+#[derive(Clone, Copy)]
 pub enum ReadError {
     /// A read failed.
     Failed,
