@@ -9,7 +9,7 @@ use ap_io::{Failed, Source};
 use std::alloc::{AllocError, Global};
 
 /// Why the bytes of a source weren't read whole.
-#[derive(Clone, Copy, Debug, PartialEq, Eq)]
+#[derive(Clone, Copy)]
 pub enum ReadError {
     /// a read failed
     Failed,
