@@ -14,4 +14,4 @@ pub mod parts;
 mod rounds;
 pub mod solved;
 mod walking;
-mod writing;
+pub mod writing;
