@@ -2,7 +2,7 @@
 ghost use Rattle.std.specs.Prelude.{◌≡◌};
 
 use ap_io::{Failed, Sink};
-use ap_remarks::Tally;
+use ap_located::Tally;
 
 /// A sink, with the sums over the report's lines of totals that were written to it.
 #[derive(Drop)]

@@ -7,7 +7,7 @@ mod remembering;
 mod saying;
 
 use ap_io::{NoGate, StdSink, StdSource};
-use ap_remarks::Tally;
+use ap_located::Tally;
 use ap_top::{Status, top};
 use counting::Counting;
 use remembering::Remembering;

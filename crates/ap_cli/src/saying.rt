@@ -2,7 +2,7 @@
 
 use ap_defs::limits::SIZE_LIMIT;
 use ap_explain::explain_text;
-use ap_remarks::{Tally, branch_remarks, warnings};
+use ap_located::{Tally, branch_remarks, warnings};
 use ap_top::Status;
 use std::alloc::Global;
 

@@ -7,10 +7,10 @@ ghost use Rattle.ap_defs.specs.Unification.{size};
 ghost use Rattle.ap_defs.specs.Walks.{term_in_frames, term_made, term_work, term_frames_work};
 
 use crate::goals::Kind;
-use crate::lists::List;
+use crate::lists::Swaps;
 use crate::memory::Memory;
 use crate::spines::TermLayer;
-use crate::terms::{Term, Ty};
+use crate::terms::{Name, Term, Ty};
 use crate::walks::{TermFrame, TermPart, leave_term};
 use std::alloc::Global;
 use std::sync::Arc;
@@ -31,7 +31,7 @@ fn copy_part<'a>(
         Term::Name(a) => Ok(TermPart::Made(Term::Name(*a))),
         Term::Susp(swaps, x) => {
             let swaps = swaps.items().to_vec(alloc)?;
-            Ok(TermPart::Made(Term::Susp(List::of(swaps), *x)))
+            Ok(TermPart::Made(Term::Susp(Swaps::of(alloc, swaps)?, *x)))
         }
         Term::Pair(left, right) => {
             frames.push(TermFrame::Before(right))?;
@@ -41,8 +41,12 @@ fn copy_part<'a>(
             frames.push(TermFrame::In(TermLayer::App(*f)))?;
             Ok(TermPart::Left(argument))
         }
-        Term::Abs(a, body) => {
-            frames.push(TermFrame::In(TermLayer::Abs(*a)))?;
+        Term::Abs(sort, num, body) => {
+            let a = Name {
+                sort: *sort,
+                num: *num,
+            };
+            frames.push(TermFrame::In(TermLayer::Abs(a)))?;
             Ok(TermPart::Left(body))
         }
     }

@@ -182,7 +182,7 @@ fn carry_out<'a>(
     }
 }
 
-/// The rule for two closures, once bound variables at their heads are followed.
+/// The rule for an equation.
 fn rule_at<'a>(alloc: Global, store: &Store<'a>, e: ClosurePair<'a>) -> Result<Move<'a>, Memory>
     requires { IsPairBelow (present store.now).next e }
     ensures rule { IfOk result (λ m. move_under (bindings_of store.now) m
@@ -191,8 +191,6 @@ fn rule_at<'a>(alloc: Global, store: &Store<'a>, e: ClosurePair<'a>) -> Result<M
         m) }
 {
     let ClosurePair { left, right } = e;
-    let left = store.follow(alloc, left)?;
-    let right = store.follow(alloc, right)?;
     rule_for(alloc, store, left, right)
 }
 

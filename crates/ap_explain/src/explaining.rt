@@ -13,7 +13,7 @@ use ap_lexer::{LexError, Token, lex};
 use ap_located::characters::{explain_bytes, explain_character};
 use ap_located::items::{Range, ranges_of, tokens_in};
 use ap_located::messages::{Message, add_message};
-use ap_sentences::{Subject, item_message};
+use ap_located::{Subject, item_message};
 use ap_text::{TextError, program_of_text};
 use std::alloc::Global;
 

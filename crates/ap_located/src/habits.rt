@@ -68,64 +68,88 @@ fn begins_term(kind: Option<TokenKind>, text: &str) -> bool {
 
 /// Slips in how an item begins.
 fn at_begin(at: Around<'_>) -> Option<&'static str> {
-    if at.wanted == Wanted::Item && at.kind == Some(TokenKind::Reserved) {
-        return Some("this is a reserved word; it can't be declared and can't be called");
+    match at.wanted {
+        Wanted::Item => at_first_word(at),
+        Wanted::Body => at_body(at),
+        _ => None,
     }
-    if at.wanted == Wanted::Item && at.kind == Some(TokenKind::Var) {
-        return Some(
+}
+
+/// Slips in the word with which an item begins.
+fn at_first_word(at: Around<'_>) -> Option<&'static str> {
+    match at.kind {
+        Some(TokenKind::Reserved) => {
+            Some("this is a reserved word; it can't be declared and can't be called")
+        }
+        Some(TokenKind::Var) => Some(
             "words of types, constructors and predicates begin with a small letter; variables with a capital",
-        );
+        ),
+        _ => None,
     }
-    if at.wanted == Wanted::Body && at.text == "," {
-        return Some("a clause has one head; its goals stand behind `:-`");
-    }
-    if at.wanted == Wanted::Body && (at.text == "=" || at.text == "#") {
-        return Some(
+}
+
+/// Slips behind a clause's head.
+fn at_body(at: Around<'_>) -> Option<&'static str> {
+    match at.text {
+        "," => Some("a clause has one head; its goals stand behind `:-`"),
+        "=" | "#" => Some(
             "a clause begins with a predicate; an equation stands behind `:-` or in a query",
+        ),
+        _ if are_words(at) => Some(
+            "a data type is declared by `exp : type.`, a name type by `id : name_type.`, a constructor by `f : t -> u.`",
+        ),
+        _ => None,
+    }
+}
+
+/// Whether a word stands behind one that isn't reserved.
+fn are_words(at: Around<'_>) -> bool {
+    matches!(at.kind, Some(TokenKind::Ident | TokenKind::Reserved))
+        && matches!(at.kind_before, Some(TokenKind::Ident))
+}
+
+/// Slips in declarations.
+fn in_types(at: Around<'_>) -> Option<&'static str> {
+    match at.wanted {
+        Wanted::PredicateTypes => {
+            Some("the types of a predicate stand in parentheses: `pred p(t, u).`")
+        }
+        Wanted::Type if matches!(at.kind, Some(TokenKind::Var)) => Some(
+            "there are no type variables: declare a predicate for each type that is needed",
+        ),
+        Wanted::Type if at.text == ")" && at.before == "(" => Some(
+            "a predicate without arguments is declared without parentheses: `pred p.`",
+        ),
+        Wanted::End if at.text == "->" => {
+            Some("several arguments stand in parentheses: `(t, u) -> v`")
+        }
+        Wanted::Word => Some("the word of a predicate begins with a small letter"),
+        Wanted::Arrow if at.text == "," => {
+            Some("several arguments stand in parentheses: `(t, u) -> v`")
+        }
+        _ if at.declares => in_declaration(at),
+        _ => None,
+    }
+}
+
+/// Slips in declarations, by the token alone.
+fn in_declaration(at: Around<'_>) -> Option<&'static str> {
+    if at.text == "->" {
+        return Some(
+            "no term is a function; the type of what binds a name of the type `n` is `n\\t`",
         );
     }
-    let word = at.kind == Some(TokenKind::Ident) || at.kind == Some(TokenKind::Reserved);
-    if at.wanted == Wanted::Body && word && at.kind_before == Some(TokenKind::Ident) {
+    if are_terms(at) {
         return Some(
-            "a data type is declared by `exp : type.`, a name type by `id : name_type.`, a constructor by `f : t -> u.`",
+            "types have no parameters; a list with elements of the type `t` has the type `[t]`",
         );
     }
     None
 }
 
-/// Slips in declarations.
-fn in_types(at: Around<'_>) -> Option<&'static str> {
-    if at.wanted == Wanted::PredicateTypes {
-        return Some("the types of a predicate stand in parentheses: `pred p(t, u).`");
-    }
-    if at.wanted == Wanted::Type && at.kind == Some(TokenKind::Var) {
-        return Some(
-            "there are no type variables: declare a predicate for each type that is needed",
-        );
-    }
-    if at.wanted == Wanted::Type && at.text == ")" && at.before == "(" {
-        return Some("a predicate without arguments is declared without parentheses: `pred p.`");
-    }
-    if at.wanted == Wanted::End && at.text == "->" {
-        return Some("several arguments stand in parentheses: `(t, u) -> v`");
-    }
-    if at.wanted == Wanted::Word {
-        return Some("the word of a predicate begins with a small letter");
-    }
-    if at.declares && at.text == "->" {
-        return Some(
-            "no term is a function; the type of what binds a name of the type `n` is `n\\t`",
-        );
-    }
-    if at.declares && begins_term(at.kind, at.text) && ends_term(at.kind_before, at.before) {
-        return Some(
-            "types have no parameters; a list with elements of the type `t` has the type `[t]`",
-        );
-    }
-    if at.wanted == Wanted::Arrow && at.text == "," {
-        return Some("several arguments stand in parentheses: `(t, u) -> v`");
-    }
-    None
+/// Whether a term may begin behind one that may have ended.
+fn are_terms(at: Around<'_>) -> bool {
+    begins_term(at.kind, at.text) && ends_term(at.kind_before, at.before)
 }
 
 /// Slips in what `new` and `exists` bring.
@@ -164,7 +188,7 @@ fn at_token(at: Around<'_>) -> Option<&'static str> {
         "->" => Some(
             "there is no if-then-else: write a clause for each case, or `G1, H1 ; G2, H2`",
         ),
-        "(" if at.kind_before == Some(TokenKind::Var) => {
+        "(" if matches!(at.kind_before, Some(TokenKind::Var)) => {
             Some("a variable stands for a term; it can't be called and has no arguments")
         }
         ":" => Some("two terms are made equal by one `=`"),
@@ -203,11 +227,10 @@ fn at_mark(at: Around<'_>) -> Option<&'static str> {
 
 /// Slips with words in terms.
 fn at_word(at: Around<'_>) -> Option<&'static str> {
-    let in_arguments = matches!(at.open, Form::Apply | Form::Tuple | Form::List);
-    if in_arguments && begins_term(at.kind, at.text) && ends_term(at.kind_before, at.before) {
+    if matches!(at.open, Form::Apply | Form::Tuple | Form::List) && are_terms(at) {
         return Some("arguments stand in parentheses with commas between: `f(t, u)`");
     }
-    if at.kind == Some(TokenKind::Reserved) {
+    if matches!(at.kind, Some(TokenKind::Reserved)) {
         return Some("this is a reserved word; it is no name and no constructor");
     }
     None

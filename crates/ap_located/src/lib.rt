@@ -5,6 +5,9 @@
 //! first at which no item can go on, into nodes that know their tokens. What is said of a text that doesn't split
 //! into tokens, or of an item that isn't in the grammar, needs no more than this: `characters`, `nesting`,
 //! `grammar`.
+//!
+//! `sentences`: what a person needs to mend a fault of an item. `remarks`: warnings, and what helps where branches
+//! were cut or stuck.
 #![tactic(auto)]
 
 pub mod characters;
@@ -18,7 +21,12 @@ pub mod nearest;
 pub mod nesting;
 pub mod nodes;
 pub mod reader;
+mod remarks;
+mod sentences;
 mod signs;
 pub mod slips;
 pub mod spots;
 mod term_reader;
+
+pub use remarks::{Tally, branch_remarks, warnings};
+pub use sentences::{Subject, item_message};

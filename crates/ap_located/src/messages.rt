@@ -110,17 +110,29 @@ fn add_margin(out: &mut String, number: &str) -> Result<(), Memory> {
     Ok(())
 }
 
+/// Adds pieces, one after the other.
+fn add_pieces(out: &mut String, pieces: &[Piece<'_>]) -> Result<(), Memory> {
+    for piece in pieces {
+        add_piece(out, *piece)?;
+    }
+    Ok(())
+}
+
 /// Adds the sentence and the place.
 fn add_head(out: &mut String, word: &str, sentence: &str, spot: Spot) -> Result<(), Memory> {
-    add_piece(out, Piece::Text(word))?;
-    add_piece(out, Piece::Text(": "))?;
-    add_piece(out, Piece::Text(sentence))?;
-    add_piece(out, Piece::Text("\n  line "))?;
-    add_piece(out, Piece::Number(spot.line as u64))?;
-    add_piece(out, Piece::Text(", column "))?;
-    add_piece(out, Piece::Number(spot.column as u64))?;
-    add_piece(out, Piece::Text("\n"))?;
-    Ok(())
+    add_pieces(
+        out,
+        &[
+            Piece::Text(word),
+            Piece::Text(": "),
+            Piece::Text(sentence),
+            Piece::Text("\n  line "),
+            Piece::Number(spot.line as u64),
+            Piece::Text(", column "),
+            Piece::Number(spot.column as u64),
+            Piece::Text("\n"),
+        ],
+    )
 }
 
 /// Adds the line with a number and the marks below it, with a label.
@@ -130,18 +142,25 @@ fn add_excerpt(
     excerpt: &Excerpt,
     label: &str,
 ) -> Result<(), Memory> {
-    out.push_str(number)?;
-    out.push_str(" | ")?;
-    out.push_str(excerpt.line.as_str())?;
-    out.push('\n')?;
+    let line = Piece::Text(excerpt.line.as_str());
+    add_pieces(
+        out,
+        &[
+            Piece::Text(number),
+            Piece::Text(" | "),
+            line,
+            Piece::Text("\n"),
+        ],
+    )?;
     add_margin(out, number)?;
-    out.push_str(" | ")?;
-    out.push_str(excerpt.marks.as_str())?;
-    if !label.is_empty() {
-        out.push(' ')?;
-        out.push_str(label)?;
+    add_pieces(
+        out,
+        &[Piece::Text(" | "), Piece::Text(excerpt.marks.as_str())],
+    )?;
+    if label.is_empty() {
+        return Ok(());
     }
-    Ok(())
+    add_pieces(out, &[Piece::Text(" "), Piece::Text(label)])
 }
 
 /// Adds the notes, each of which stands behind a line feed.

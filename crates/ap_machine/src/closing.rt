@@ -11,7 +11,7 @@ ghost use Rattle.ap_store.specs.declared.store.Store.{Store};
 ghost use Rattle.ap_machine.specs.declared.closing.Part.TheVariants as parts;
 ghost use Rattle.ap_machine.specs.Closed.{closed_part, closed_round, closed_within, part_work, round_work, rounds_work};
 
-use ap_defs::lists::List;
+use ap_defs::lists::Swaps;
 use ap_defs::memory::Memory;
 use ap_defs::terms::{Name, Swap, Term};
 use ap_perm::closures::{Closure, Lent, Opened};
@@ -48,17 +48,17 @@ fn canonical_of(alloc: Global, swaps: Vec<Swap>) -> Result<Vec<Swap>, Memory>
 }
 
 /// What a closure stands for, with no bound variable at its head.
-fn headed<'a>(alloc: Global, store: &Store<'a>, c: Closure<'a>) -> Result<Closure<'a>, Memory>
+fn headed<'a>(store: &Store<'a>, c: Closure<'a>) -> Result<Closure<'a>, Memory>
     ensures term { IfOk result (λ d. meaning_in store.now d ≡ meaning_in store.now c.entry) }
     ensures head { IfOk result (λ d. IsHeadUnbound (bindings_of store.now) (closure_term d)) }
 {
     match c.term {
-        Term::Susp(_, _) => store.follow(alloc, c),
+        Term::Susp(_, _) => store.follow(c),
         Term::Unit => Ok(c),
         Term::Name(_) => Ok(c),
         Term::Pair(_, _) => Ok(c),
         Term::App(_, _) => Ok(c),
-        Term::Abs(_, _) => Ok(c),
+        Term::Abs(_, _, _) => Ok(c),
     }
 }
 
@@ -91,13 +91,14 @@ fn go_in<'a>(
         rounds_work store.now rounds.new.items + part_work store.now p
         < rounds_work store.now rounds.old.items + part_work store.now (parts.Left c.entry)) }
 {
-    let head = headed(alloc, store, c)?;
+    let head = headed(store, c)?;
     match head.open(alloc)? {
         Opened::Unit => Ok(Part::Made(Term::Unit)),
         Opened::Name(a) => Ok(Part::Made(Term::Name(a))),
         Opened::Susp(swaps, x) => {
             let swaps = canonical_of(alloc, swaps)?;
-            Ok(Part::Made(Term::Susp(List::of(swaps), x)))
+            let waiting = Swaps::of(alloc, swaps)?;
+            Ok(Part::Made(Term::Susp(waiting, x)))
         }
         Opened::Pair(left, right) => {
             rounds.push(Round::LeftOf(right))?;
@@ -145,7 +146,10 @@ fn go_out<'a>(
             Ok(Part::Left(right))
         }
         Round::App(f) => Ok(Part::Made(Term::App(f, Box::new(alloc, made)?))),
-        Round::Abs(a) => Ok(Part::Made(Term::Abs(a, Box::new(alloc, made)?))),
+        Round::Abs(a) => {
+            let body = Box::new(alloc, made)?;
+            Ok(Part::Made(Term::Abs(a.sort, a.num, body)))
+        }
     }
 }
 

@@ -11,7 +11,7 @@ use crate::texts::DIVIDER;
 use ap_defs::limits::SIZE_LIMIT;
 use ap_defs::memory::Memory;
 use ap_explain::explain_text;
-use ap_remarks::{Tally, branch_remarks, warnings};
+use ap_located::{Tally, branch_remarks, warnings};
 use std::alloc::Global;
 use std::fs::Files;
 use std::io::ErrorKind;

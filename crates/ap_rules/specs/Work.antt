@@ -14,7 +14,6 @@ use Rattle.ap_theory.specs.Variables.{IsUnbound}
 use Rattle.ap_rules.specs.Runs.{stage_under}
 use Rattle.ap_rules.specs.declared.moves.Move.{Move}
 use Rattle.ap_rules.specs.declared.moves.Move.TheVariants as moves
-use Rattle.ap_rules.specs.declared.moves.Suspension.{Suspension}
 use Rattle.ap_rules.specs.declared.pairs.ClosurePair.{ClosurePair}
 use Rattle.ap_rules.specs.declared.pairs.FreshFor.{FreshFor}
 use Rattle.ap_rules.specs.declared.pairs.FreshFor.TheVariants as freshness
@@ -70,16 +69,6 @@ IsPairBelow n p = IsBelow n (closure_term p.left) × IsBelow n (closure_term p.r
 abbrev pub ArePairsBelow : ℕ → List ClosurePair → Type 0
 ArePairsBelow n [] = Unit {0}
 ArePairsBelow n (p ∷ ps) = IsPairBelow n p × ArePairsBelow n ps
-
--- no variable stands at the head of the term
-abbrev pub HasForm : NominalTerm → Type 0
-HasForm (susp p x) = ⊥
-HasForm _ = Unit {0}
-
--- what is found where a variable is looked for at the head of a term
-abbrev pub IsSuspension : Option Suspension → NominalTerm → Type 0
-IsSuspension None t = HasForm t
-IsSuspension (Some s) t = t ≡ susp s.swaps.items s.var
 
 -- what a move brings is below n, and what it binds is unbound
 abbrev pub IsMoveFit : List Binding → ℕ → Move → Type 0

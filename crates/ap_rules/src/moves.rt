@@ -1,22 +1,21 @@
 //! The rules of unification, each for one equation of closures.
 
-ghost use Rattle.std.specs.Prelude.{◌≡◌, [], ◌∷◌, ◌<◌, false, IfOk};
+ghost use Rattle.std.specs.Prelude.{◌≡◌, [], ◌∷◌, ◌<◌, false, IfOk, Some};
 ghost use Rattle.ap_defs.specs.Permutations.{inverse, swap_of};
 ghost use Rattle.ap_defs.specs.Renaming.{AreSwapsBelow, IsBelow};
 ghost use Rattle.ap_defs.specs.Substitution.{occurs, ◌#◌, ◌≐◌};
 ghost use Rattle.ap_defs.specs.Terms.{abs, act_term, susp};
 ghost use Rattle.ap_defs.specs.Unification.{bind, replace, rule, unless_occurs};
 ghost use Rattle.ap_perm.specs.Closures.{closure_term, opened_term};
-ghost use Rattle.ap_store.specs.Heads.{IsHeadUnbound};
+ghost use Rattle.ap_store.specs.Heads.{HasForm, IsHeadVar};
 ghost use Rattle.ap_store.specs.Views.{bindings_of, meaning_in, present};
 ghost use Rattle.ap_theory.specs.Variables.{IsUnbound};
-ghost use Rattle.ap_rules.specs.Work.{HasForm, IsMoveFit, IsSuspension, move_under, opened_under};
+ghost use Rattle.ap_rules.specs.Work.{IsMoveFit, move_under, opened_under};
 
 use crate::pairs::ClosurePair;
 use ap_defs::memory::Memory;
 use ap_defs::terms::{Name, Swap, Term, Var};
 use ap_perm::closures::{Closure, Opened};
-use ap_perm::joining::with_numbered;
 use ap_perm::swappings::differing;
 use ap_store::store::Store;
 use std::alloc::Global;
@@ -34,32 +33,27 @@ pub enum Move<'a> {
     Clash,
 }
 
-/// A suspension: swappings that wait, the first outermost, and the variable.
-#[derive(Drop)]
-pub struct Suspension {
-    pub swaps: Vec<Swap>,
-    pub var: Var,
-}
-
-/// The suspension that a closure is, or none where no variable stands at its head.
-fn suspension_of(alloc: Global, c: &Closure<'_>) -> Result<Option<Suspension>, Memory>
-    ensures { IfOk result (λ o. IsSuspension o (closure_term c.now)) }
+/// The swappings of the suspension that a closure stands for under the bindings, the first outermost.
+fn swaps_of<'a>(
+    alloc: Global,
+    store: &Store<'a>,
+    x: Var,
+    c: Closure<'a>,
+) -> Result<Vec<Swap>, Memory>
+    requires head { IsHeadVar (bindings_of store.now) (meaning_in store.now c) (Some x) }
+    requires below { IsBelow (present store.now).next (closure_term c) }
+    ensures all { IfOk result (λ p. meaning_in store.now c.entry ≡ susp p.items x) }
+    ensures below { IfOk result (λ p. AreSwapsBelow (present store.now).next p.items) }
+    ensures made { IfOk result (λ p. x.num < (present store.now).next) }
 {
-    let _end = c.end;
-    match c.term {
-        Term::Unit => Ok(None),
-        Term::Name(_) => Ok(None),
-        Term::Pair(_, _) => Ok(None),
-        Term::App(_, _) => Ok(None),
-        Term::Abs(_, _) => Ok(None),
-        Term::Susp(q, x) => {
-            let own = c.swaps.to_vec(alloc)?;
-            let swaps = with_numbered(own, c.base, q.items())?;
-            let var = Var {
-                num: c.base + x.num,
-            };
-            Ok(Some(Suspension { swaps, var }))
-        }
+    let head = store.follow(c)?;
+    match head.open(alloc)? {
+        Opened::Susp(swaps, _) => Ok(swaps),
+        Opened::Unit => unreachable!(),
+        Opened::Name(_) => unreachable!(),
+        Opened::Pair(_, _) => unreachable!(),
+        Opened::App(_, _) => unreachable!(),
+        Opened::Abs(_, _) => unreachable!(),
     }
 }
 
@@ -131,40 +125,78 @@ fn bind_unless_occurs<'a>(
     bind_to(alloc, store, p, x, c)
 }
 
-/// Of two different variables the one with the greater number is bound; of one variable, the names
-/// on which the permutations differ are to be fresh for it.
-fn suspensions<'a>(
+/// Of one variable, the names on which the permutations differ are to be fresh for it.
+fn one_variable<'a>(
     alloc: Global,
     store: &Store<'a>,
-    p: &[Swap],
     x: Var,
     left: Closure<'a>,
-    q: &[Swap],
-    y: Var,
     right: Closure<'a>,
 ) -> Result<Move<'a>, Memory>
-    requires left { meaning_in store.now left ≡ susp p.now x }
-    requires right { meaning_in store.now right ≡ susp q.now y }
-    requires left_unbound { IsUnbound (bindings_of store.now) x }
-    requires right_unbound { IsUnbound (bindings_of store.now) y }
-    requires left_swaps { AreSwapsBelow (present store.now).next p.now }
-    requires right_swaps { AreSwapsBelow (present store.now).next q.now }
-    requires left_made { x.num < (present store.now).next }
-    requires right_made { y.num < (present store.now).next }
+    requires left { IsHeadVar (bindings_of store.now) (meaning_in store.now left) (Some x) }
+    requires right { IsHeadVar (bindings_of store.now) (meaning_in store.now right) (Some x) }
     requires left_below { IsBelow (present store.now).next (closure_term left) }
     requires right_below { IsBelow (present store.now).next (closure_term right) }
     ensures rule { IfOk result (λ m. move_under (bindings_of store.now) m
-        ≡ rule (susp p.now x) (susp q.now y)) }
+        ≡ rule (meaning_in store.now left.entry) (meaning_in store.now right.entry)) }
+    ensures fit { IfOk result (λ m. IsMoveFit (bindings_of store.now) (present store.now).next
+        m) }
+{
+    let p = swaps_of(alloc, store, x, left)?;
+    let q = swaps_of(alloc, store, x, right)?;
+    let names = differing(alloc, &p, &q)?;
+    Ok(Move::Differ(names, x))
+}
+
+/// Of two different variables the one with the greater number is bound, whichever stands on the left.
+fn bind_newer<'a>(
+    alloc: Global,
+    store: &Store<'a>,
+    x: Var,
+    older: Closure<'a>,
+    y: Var,
+    newer: Closure<'a>,
+) -> Result<Move<'a>, Memory>
+    requires numbers { x.num < y.num }
+    requires older { IsHeadVar (bindings_of store.now) (meaning_in store.now older) (Some x) }
+    requires newer { IsHeadVar (bindings_of store.now) (meaning_in store.now newer) (Some y) }
+    requires older_below { IsBelow (present store.now).next (closure_term older) }
+    requires newer_below { IsBelow (present store.now).next (closure_term newer) }
+    ensures left { IfOk result (λ m. move_under (bindings_of store.now) m
+        ≡ rule (meaning_in store.now older.entry) (meaning_in store.now newer.entry)) }
+    ensures right { IfOk result (λ m. move_under (bindings_of store.now) m
+        ≡ rule (meaning_in store.now newer.entry) (meaning_in store.now older.entry)) }
+    ensures fit { IfOk result (λ m. IsMoveFit (bindings_of store.now) (present store.now).next
+        m) }
+{
+    let q = swaps_of(alloc, store, y, newer)?;
+    bind_to(alloc, store, &q, y, older)
+}
+
+/// The rule for two closures that stand for suspensions.
+fn suspensions<'a>(
+    alloc: Global,
+    store: &Store<'a>,
+    x: Var,
+    left: Closure<'a>,
+    y: Var,
+    right: Closure<'a>,
+) -> Result<Move<'a>, Memory>
+    requires left { IsHeadVar (bindings_of store.now) (meaning_in store.now left) (Some x) }
+    requires right { IsHeadVar (bindings_of store.now) (meaning_in store.now right) (Some y) }
+    requires left_below { IsBelow (present store.now).next (closure_term left) }
+    requires right_below { IsBelow (present store.now).next (closure_term right) }
+    ensures rule { IfOk result (λ m. move_under (bindings_of store.now) m
+        ≡ rule (meaning_in store.now left.entry) (meaning_in store.now right.entry)) }
     ensures fit { IfOk result (λ m. IsMoveFit (bindings_of store.now) (present store.now).next
         m) }
 {
     if x.num == y.num {
-        let names = differing(alloc, p, q)?;
-        Ok(Move::Differ(names, x))
+        one_variable(alloc, store, x, left, right)
     } else if x.num < y.num {
-        bind_to(alloc, store, q, y, left)
+        bind_newer(alloc, store, x, left, y, right)
     } else {
-        bind_to(alloc, store, p, x, right)
+        bind_newer(alloc, store, y, right, x, left)
     }
 }
 
@@ -273,15 +305,15 @@ fn rule_for_opened<'a>(
     }
 }
 
-/// The rule for two closures, neither of them a suspension.
+/// The rule for two closures that stand for no suspension.
 fn rule_for_parts<'a>(
     alloc: Global,
     store: &Store<'a>,
     left: Closure<'a>,
     right: Closure<'a>,
 ) -> Result<Move<'a>, Memory>
-    requires left_form { HasForm (closure_term left) }
-    requires right_form { HasForm (closure_term right) }
+    requires left_form { HasForm (meaning_in store.now left) }
+    requires right_form { HasForm (meaning_in store.now right) }
     requires left_below { IsBelow (present store.now).next (closure_term left) }
     requires right_below { IsBelow (present store.now).next (closure_term right) }
     ensures rule { IfOk result (λ m. move_under (bindings_of store.now) m
@@ -289,44 +321,65 @@ fn rule_for_parts<'a>(
     ensures fit { IfOk result (λ m. IsMoveFit (bindings_of store.now) (present store.now).next
         m) }
 {
+    let left = store.follow(left)?;
+    let right = store.follow(right)?;
     let opened_left = left.open(alloc)?;
     let opened_right = right.open(alloc)?;
     rule_for_opened(alloc, store, opened_left, opened_right)
 }
 
-/// The rule for a suspension of an unbound variable and a closure that is no suspension, whichever
-/// is the left one.
+/// The rule for a closure that stands for a suspension and one that doesn't, whichever is the left one.
 fn rule_for_one<'a>(
     alloc: Global,
     store: &Store<'a>,
-    s: &Suspension,
+    x: Var,
+    suspended: Closure<'a>,
     c: Closure<'a>,
 ) -> Result<Move<'a>, Memory>
-    requires made { s.now.var.num < (present store.now).next }
-    requires unbound { IsUnbound (bindings_of store.now) s.now.var }
-    requires swaps { AreSwapsBelow (present store.now).next s.now.swaps.items }
-    requires form { HasForm (closure_term c) }
+    requires head { IsHeadVar (bindings_of store.now) (meaning_in store.now suspended) (Some x) }
+    requires form { HasForm (meaning_in store.now c) }
+    requires suspended_below { IsBelow (present store.now).next (closure_term suspended) }
     requires below { IsBelow (present store.now).next (closure_term c) }
     ensures left { IfOk result (λ m. move_under (bindings_of store.now) m
-        ≡ rule (susp s.now.swaps.items s.now.var) (meaning_in store.now c.entry)) }
+        ≡ rule (meaning_in store.now suspended.entry) (meaning_in store.now c.entry)) }
     ensures right { IfOk result (λ m. move_under (bindings_of store.now) m
-        ≡ rule (meaning_in store.now c.entry)
-        (susp s.now.swaps.items s.now.var)) }
+        ≡ rule (meaning_in store.now c.entry) (meaning_in store.now suspended.entry)) }
     ensures fit { IfOk result (λ m. IsMoveFit (bindings_of store.now) (present store.now).next
         m) }
 {
-    bind_unless_occurs(alloc, store, &s.swaps, s.var, c)
+    let p = swaps_of(alloc, store, x, suspended)?;
+    bind_unless_occurs(alloc, store, &p, x, c)
 }
 
-/// The rule for two closures, neither of them a suspension of a bound variable.
+/// The rule for two closures by the variables at their heads.
+fn rule_by_heads<'a>(
+    alloc: Global,
+    store: &Store<'a>,
+    left: Closure<'a>,
+    right: Closure<'a>,
+) -> Result<Move<'a>, Memory>
+    requires left_below { IsBelow (present store.now).next (closure_term left) }
+    requires right_below { IsBelow (present store.now).next (closure_term right) }
+    ensures rule { IfOk result (λ m. move_under (bindings_of store.now) m
+        ≡ rule (meaning_in store.now left.entry) (meaning_in store.now right.entry)) }
+    ensures fit { IfOk result (λ m. IsMoveFit (bindings_of store.now) (present store.now).next
+        m) }
+{
+    match (store.head_var(&left), store.head_var(&right)) {
+        (None, None) => rule_for_parts(alloc, store, left, right),
+        (Some(x), None) => rule_for_one(alloc, store, x, left, right),
+        (None, Some(y)) => rule_for_one(alloc, store, y, right, left),
+        (Some(x), Some(y)) => suspensions(alloc, store, x, left, y, right),
+    }
+}
+
+/// The rule for two closures. What it binds is no further followed than few swappings wait.
 pub fn rule_for<'a>(
     alloc: Global,
     store: &Store<'a>,
     left: Closure<'a>,
     right: Closure<'a>,
 ) -> Result<Move<'a>, Memory>
-    requires left_unbound { IsHeadUnbound (bindings_of store.now) (closure_term left) }
-    requires right_unbound { IsHeadUnbound (bindings_of store.now) (closure_term right) }
     requires left_below { IsBelow (present store.now).next (closure_term left) }
     requires right_below { IsBelow (present store.now).next (closure_term right) }
     ensures rule { IfOk result (λ m. move_under (bindings_of store.now) m
@@ -334,14 +387,7 @@ pub fn rule_for<'a>(
     ensures fit { IfOk result (λ m. IsMoveFit (bindings_of store.now) (present store.now).next
         m) }
 {
-    let on_left = suspension_of(alloc, &left)?;
-    let on_right = suspension_of(alloc, &right)?;
-    match (&on_left, &on_right) {
-        (None, None) => rule_for_parts(alloc, store, left, right),
-        (Some(s), None) => rule_for_one(alloc, store, s, right),
-        (None, Some(s)) => rule_for_one(alloc, store, s, left),
-        (Some(s), Some(r)) => {
-            suspensions(alloc, store, &s.swaps, s.var, left, &r.swaps, r.var, right)
-        }
-    }
+    let left = store.shortened(left)?;
+    let right = store.shortened(right)?;
+    rule_by_heads(alloc, store, left, right)
 }

@@ -11,7 +11,7 @@ use ap_defs::limits::SIZE_LIMIT;
 use ap_defs::memory::Memory;
 use ap_inputs::items::{count_queries, kept_text};
 use ap_lexer::{LexError, Token, lex};
-use ap_remarks::warnings;
+use ap_located::warnings;
 use ap_text::{TextError, program_of_text};
 use std::alloc::Global;
 

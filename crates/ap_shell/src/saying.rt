@@ -5,7 +5,7 @@ use ap_defs::limits::{GREATEST_DEPTH, SIZE_LIMIT};
 use ap_defs::memory::Memory;
 use ap_explain::explain_text;
 use ap_inputs::orders::MOST_ANSWERS;
-use ap_remarks::Tally;
+use ap_located::Tally;
 use ap_report::{Report, Status};
 use std::alloc::Global;
 

@@ -1,9 +1,9 @@
 -- Variables that are followed to the closures to which they are bound.
 use Rattle.std.proofs.Common.{◌≡◌, ◌<◌, ◌≤◌, ◌+◌, ◌||◌, ℕ, Bool, true, false, List, ◌++◌, map, refl, sym, ap, ◌∙◌, subst, arith}
-use Rattle.std.specs.Prelude.{Some, None, is_some}
+use Rattle.std.specs.Prelude.{Option, Some, None, is_some}
 use Rattle.ap_defs.specs.Freshness.{var_eq}
 use Rattle.ap_defs.specs.Renaming.{AreSwapsBelow, IsBelow, rename_swap, rename_term, rename_var}
-use Rattle.ap_defs.specs.Substitution.{moved, occurs, under}
+use Rattle.ap_defs.specs.Substitution.{Binding, moved, occurs, under}
 use Rattle.ap_defs.specs.Terms.{NominalTerm, unit, name, pair, app, abs, act_term, susp, term_of}
 use Rattle.ap_defs.specs.declared.terms.Swap.{Swap}
 use Rattle.ap_defs.specs.declared.terms.Term.{Term}
@@ -21,7 +21,7 @@ use Rattle.ap_theory.proofs.SubstitutionLemmas.{under_act}
 use Rattle.ap_theory.proofs.TermLemmas.{act_term-append, occurs_act}
 use Rattle.ap_defs.specs.HeadKeys.{head_key}
 use Rattle.ap_theory.specs.Variables.{IsUnbound}
-use Rattle.ap_store.specs.Heads.{IsHeadOf, IsHeadUnbound}
+use Rattle.ap_store.specs.Heads.{HasForm, IsHeadOf, IsHeadUnbound, IsHeadVar}
 use Rattle.ap_store.specs.Views.{bindings_of, meaning_in, present, rank, raw_bound}
 use Rattle.ap_store.specs.declared.store.Store.{Store}
 use Rattle.ap_store.proofs.BelowLemmas.{act_below}
@@ -108,6 +108,15 @@ module _ (s : Store) where
             (subst (λ (t : NominalTerm). depth_of (rank s) (act_term (p ++ d.swaps.now) (bare_lent d)) < depth_of (rank s) t) (sym h) (bound_depth p y d e)),
       )
 
+  -- a closure in its place
+  pub step_taken : (c : Closure) (d : Lent) (f : Closure) (q : List Swap) (x : Var) → c.term.now ≡ code.Susp q x
+      → closure_term f ≡ act_term ((c.swaps.items ++ map (rename_swap c.base) q) ++ d.swaps.now) (bare_lent d) → raw_bound s (rename_var c.base x) ≡ Some (lent_term d)
+      → (meaning_in s f ≡ meaning_in s c) × (IsBelow (present s).next (closure_term c) → IsBelow (present s).next (closure_term f)) × (depth_of (rank s) (closure_term f) < depth_of (rank s) (closure_term c))
+  step_taken c d f q x e k h =
+      let all = (c.swaps.items ++ map (rename_swap c.base) q) ++ d.swaps.now in
+      subst (λ (t : NominalTerm). (under (bindings_of s) t ≡ meaning_in s c) × (IsBelow (present s).next (closure_term c) → IsBelow (present s).next t) × (depth_of (rank s) t < depth_of (rank s) (closure_term c)))
+      (sym k) (step_found c d all q x e refl h)
+
   -- swappings that wait change no key
   moved_key : (p : List Swap) (t : NominalTerm) → head_key (under (bindings_of s) (act_term p t)) ≡ head_key (under (bindings_of s) t)
   moved_key p t = ap head_key (under_act (bindings_of s) p t) ∙ key_act p (under (bindings_of s) t)
@@ -125,6 +134,12 @@ module _ (s : Store) where
         omega (arith, l, m),
       )
 
+  -- a term below bindings, but for swappings
+  pub bound_look : (q : List Swap) (x : Var) (p : List Swap) (t : NominalTerm) → raw_bound s x ≡ Some (act_term p t)
+      → ((r : List Swap) × (under (bindings_of s) (susp q x) ≡ act_term r (under (bindings_of s) t))) × (depth_of (rank s) t < depth_of (rank s) (susp q x))
+  bound_look q x p t e =
+      let (_, less) = head_bound q x p t e in ((q ++ p, bound_under q x p t e ∙ under_act (bindings_of s) (q ++ p) t), less)
+
   -- a head that is no bound variable stays
   pub unbound_key : (t : NominalTerm) → IsHeadUnbound (bindings_of s) t → head_key (under (bindings_of s) t) ≡ head_key t
   unbound_key unit h = refl
@@ -133,3 +148,17 @@ module _ (s : Store) where
   unbound_key (app f t) h = refl
   unbound_key (abs a t) h = refl
   unbound_key (susp q x) h = ap (λ u. head_key (moved q x u)) (bound_term_unbound (bindings_of s) x h)
+
+-- a term that is no suspension is none under swappings
+pub form_act : (p : List Swap) (t : NominalTerm) → HasForm t → HasForm (act_term p t)
+form_act p unit h = tt
+form_act p (name a) h = tt
+form_act p (pair t u) h = tt
+form_act p (app f t) h = tt
+form_act p (abs a t) h = tt
+form_act p (susp q x) h = absurd h
+
+-- and swappings change no variable at a head
+pub head_var_act : (bs : List Binding) (p : List Swap) (t u : NominalTerm) (o : Option Var) → u ≡ act_term p t → IsHeadVar bs t o → IsHeadVar bs u o
+head_var_act bs p t u None e h = subst HasForm (sym e) (form_act p t h)
+head_var_act bs p t u (Some x) e h = let (l, m) = h in let (q, k) = m in (l, (p ++ q, e ∙ ap (act_term p) k))

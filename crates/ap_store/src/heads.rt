@@ -5,7 +5,7 @@ ghost use Rattle.ap_defs.specs.Renaming.{IsBelow, rename_term};
 ghost use Rattle.ap_defs.specs.Substitution.{under};
 ghost use Rattle.ap_defs.specs.Terms.{term_of};
 ghost use Rattle.ap_store.specs.Founds.{bare_term};
-ghost use Rattle.ap_store.specs.Heads.{IsHeadOf, IsHeadUnbound};
+ghost use Rattle.ap_store.specs.Heads.{IsHeadLook, IsHeadOf, IsHeadUnbound, IsHeadVar};
 ghost use Rattle.ap_store.specs.Views.{bindings_of, meaning_in, present, rank};
 ghost use Rattle.ap_defs.specs.HeadKeys.{head_key};
 
@@ -24,7 +24,7 @@ pub fn head_key(t: &Term) -> u64
         Term::Unit => 1,
         Term::Name(_) => 2,
         Term::Pair(_, _) => 3,
-        Term::Abs(_, _) => 4,
+        Term::Abs(_, _, _) => 4,
         Term::App(f, _) => 5 + *f as u64,
     }
 }
@@ -44,6 +44,37 @@ fn bound_at_head<'a>(store: &Store<'a>, base: u64, end: u64, t: &Term) -> Option
     }
 }
 
+/// What one look at the head of a term finds: no suspension, an unbound variable, or the term of what is bound to
+/// the variable there.
+#[derive(Clone, Copy)]
+pub enum HeadLook<'a> {
+    Ends(Option<Var>),
+    Further(Bare<'a>),
+}
+
+/// A look at the head of a term. It takes no memory.
+fn look_at<'a>(store: &Store<'a>, b: Bare<'a>) -> HeadLook<'a>
+    ensures { IsHeadLook (present store.now) (rank store.now) (bare_term b.entry) result }
+{
+    let _end = b.end;
+    match b.term {
+        Term::Unit => HeadLook::Ends(None),
+        Term::Name(_) => HeadLook::Ends(None),
+        Term::Pair(_, _) => HeadLook::Ends(None),
+        Term::App(_, _) => HeadLook::Ends(None),
+        Term::Abs(_, _, _) => HeadLook::Ends(None),
+        Term::Susp(_, x) => {
+            let x = Var {
+                num: b.base + x.num,
+            };
+            match store.bare(x) {
+                None => HeadLook::Ends(Some(x)),
+                Some(further) => HeadLook::Further(further),
+            }
+        }
+    }
+}
+
 impl<'a> Store<'a> {
     /// The key of what a closure stands for under the bindings: 0 where that is a suspension. It takes no
     /// memory.
@@ -57,6 +88,27 @@ impl<'a> Store<'a> {
             match bound_at_head(self, base, end, term) {
                 None => return head_key(term),
                 Some(further) => {
+                    base = further.base;
+                    end = further.end;
+                    term = further.term;
+                }
+            }
+        }
+    }
+
+    /// The unbound variable at the head of what a closure stands for under the bindings, or none where that is no
+    /// suspension. It takes no memory.
+    pub fn head_var(&self, c: &Closure<'a>) -> Option<Var>
+        ensures { IsHeadVar (bindings_of self.now) (meaning_in self.now c.now) result }
+    {
+        let mut base = c.base;
+        let mut end = c.end;
+        let mut term = c.term;
+        'following: loop {
+            let bare = Bare { base, end, term };
+            match look_at(self, bare) {
+                HeadLook::Ends(var) => return var,
+                HeadLook::Further(further) => {
                     base = further.base;
                     end = further.end;
                     term = further.term;

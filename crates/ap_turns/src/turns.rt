@@ -91,9 +91,7 @@ fn turn_of_fresh<'a>(
     ensures goes { OnOk result (GoesFrom (track_of machine.old) (track_of machine.new)) }
 {
     let end = machine.store.next();
-    let left = machine
-        .store
-        .follow(alloc, Closure::of(alloc, base, end, t))?;
+    let left = machine.store.follow(Closure::of(alloc, base, end, t))?;
     match left.open(alloc)? {
         Opened::Name(a) => {
             let right = Closure::of(alloc, base, end, u);

@@ -16,7 +16,7 @@ use Rattle.ap_perm.specs.Closures.{closure_term}
 use Rattle.ap_perm.specs.Lookups.{depth_of}
 use Rattle.ap_perm.specs.declared.closures.Closure.{Closure}
 use Rattle.ap_store.proofs.StoreLemmas.{store_ranked, store_sound}
-use Rattle.ap_store.specs.Heads.{IsHeadUnbound}
+use Rattle.ap_store.specs.Heads.{HasForm, IsHeadUnbound}
 use Rattle.ap_store.specs.Views.{bindings_of, present, rank, raw_bound}
 use Rattle.ap_store.specs.declared.store.Store.{Store}
 use Rattle.ap_theory.proofs.TermLemmas.{act_term_none}
@@ -27,7 +27,7 @@ use Rattle.ap_rules.proofs.WorkLemmas.{pairs_below-append, put_last}
 use Rattle.ap_unify.specs.Parts.{IsFurther, IsHead}
 use Rattle.ap_equations.specs.Plain.{plain_term}
 use Rattle.ap_rules.specs.Runs.{equation_under, problem_under, stage_under}
-use Rattle.ap_rules.specs.Work.{ArePairsBelow, HasForm, pair_equation}
+use Rattle.ap_rules.specs.Work.{ArePairsBelow, pair_equation}
 use Rattle.ap_unify.specs.declared.heads.Head.{Head}
 use Rattle.ap_unify.specs.declared.heads.Head.TheVariants as heads
 use Rattle.ap_rules.specs.declared.pairs.ClosurePair.{ClosurePair}

@@ -9,7 +9,8 @@ use Rattle.ap_perm.specs.Lookups.{depth_of}
 use Rattle.ap_store.specs.Triples.{Triple}
 use Rattle.ap_theory.specs.Variables.{IsUnbound}
 use Rattle.ap_rules.specs.Runs.{equation_under, problem_under, stage_under}
-use Rattle.ap_rules.specs.Work.{HasForm, equations_left, problems_met, progress_if, work_stage}
+use Rattle.ap_store.specs.Heads.{HasForm}
+use Rattle.ap_rules.specs.Work.{equations_left, problems_met, progress_if, work_stage}
 use Rattle.ap_equations.specs.Plain.{plain_term}
 use Rattle.ap_unify.specs.declared.heads.Head.{Head}
 use Rattle.ap_unify.specs.declared.heads.Head.TheVariants as heads

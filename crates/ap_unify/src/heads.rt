@@ -44,7 +44,7 @@ fn look_at<'a>(store: &Store<'a>, p: Plain<'a>) -> Look<'a>
         Term::Name(_) => Look::Ends(Head::Form),
         Term::Pair(_, _) => Look::Ends(Head::Form),
         Term::App(_, _) => Look::Ends(Head::Form),
-        Term::Abs(_, _) => Look::Ends(Head::Form),
+        Term::Abs(_, _, _) => Look::Ends(Head::Form),
         Term::Susp(q, x) => {
             if !q.items().is_empty() {
                 return Look::Ends(Head::Other);

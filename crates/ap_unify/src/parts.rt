@@ -11,7 +11,8 @@ ghost use Rattle.ap_store.specs.Views.{bindings_of, kinds, present, versions};
 ghost use Rattle.ap_theory.specs.Variables.{IsUnbound};
 ghost use Rattle.ap_unify.specs.Parts.{AreBelowBoth, IsHead, IsRuleFor, IsTurnBelow, rule_of};
 ghost use Rattle.ap_equations.specs.Plain.{plain_term};
-ghost use Rattle.ap_rules.specs.Work.{GoOn, HasForm};
+ghost use Rattle.ap_rules.specs.Work.{GoOn};
+ghost use Rattle.ap_store.specs.Heads.{HasForm};
 ghost use Rattle.ap_unify.specs.declared.parts.Ahead.{Ahead};
 
 use crate::heads::{Head, headed};
@@ -195,8 +196,16 @@ fn forms(ahead: &mut Ahead<'_>) -> Turn
                 Turn::Clash
             }
         }
-        (Term::Abs(a, t), Term::Abs(b, u)) => {
-            if same_name(left, *a, right, *b) {
+        (Term::Abs(sort, num, t), Term::Abs(other_sort, other_num, u)) => {
+            let a = Name {
+                sort: *sort,
+                num: *num,
+            };
+            let b = Name {
+                sort: *other_sort,
+                num: *other_num,
+            };
+            if same_name(left, a, right, b) {
                 ahead.next = terms_of(pair, t, u);
                 Turn::On
             } else {

@@ -1,0 +1,223 @@
+//! Which predicates have clauses, and with what they are called.
+ghost use Rattle.std.specs.Prelude.{◌≡◌};
+
+use crate::remarks::marks::{Kind, Mark, Scanner, kind_at, text_at};
+use crate::remarks::parts::{Part, declares, is_clause};
+use crate::remarks::places::{Finder, put_arguments};
+use ap_defs::memory::Memory;
+use indexmap::IndexSet;
+use std::alloc::Global;
+
+/// An argument of a call: the place of its predicate among those that are called, its own place among the
+/// arguments, and how its term begins.
+type Argument = (usize, usize, usize);
+
+/// How a term begins that may be equal to any.
+const ANY: usize = 0;
+
+/// How an empty list begins.
+const EMPTY: usize = 1;
+
+/// How another list begins.
+const LIST: usize = 2;
+
+/// How a term begins with the first of the constructors.
+const WORD: usize = 3;
+
+/// A goal that calls a predicate: the place of the predicate among those that are called, and of the goal's word
+/// among the tokens of its item.
+#[derive(Clone, Copy)]
+pub(crate) struct Call {
+    pub predicate: usize,
+    pub token: usize,
+}
+
+/// The clauses and queries, the predicates that have clauses, those that are called, and their arguments.
+#[derive(Drop)]
+pub(crate) struct Uses<'t> {
+    text: &'t str,
+    pub parts: Vec<Part>,
+    pub calls: Vec<Call>,
+    heads: IndexSet<&'t str>,
+    called: IndexSet<&'t str>,
+    constructors: IndexSet<&'t str>,
+    // in order, once all are known
+    arguments: Vec<Argument>,
+    // the argument at each place that was noted last
+    latest: Vec<Argument>,
+    // where the arguments of a call begin
+    begins: Vec<usize>,
+}
+
+/// How a term begins that is no word, and whether it is one.
+#[derive(Clone, Copy)]
+enum Begin {
+    Word,
+    Other(usize),
+}
+
+/// How the term at a place begins.
+fn begin_at(marks: &[Mark], place: usize) -> Begin {
+    let next = kind_at(marks, place.saturating_add(1));
+    match kind_at(marks, place) {
+        Kind::Word if next != Kind::Lambda => Begin::Word,
+        Kind::OpenList if next == Kind::CloseList => Begin::Other(EMPTY),
+        Kind::OpenList => Begin::Other(LIST),
+        _ => Begin::Other(ANY),
+    }
+}
+
+impl<'t> Uses<'t> {
+    /// Those of a text.
+    pub(crate) fn of(alloc: Global, text: &'t str) -> Result<Uses<'t>, Memory> {
+        let mut uses = Uses {
+            text,
+            parts: Vec::new(alloc),
+            calls: Vec::new(alloc),
+            heads: IndexSet::new(alloc),
+            called: IndexSet::new(alloc),
+            constructors: IndexSet::new(alloc),
+            arguments: Vec::new(alloc),
+            latest: Vec::new(alloc),
+            begins: Vec::new(alloc),
+        };
+        uses.add_items(alloc)?;
+        uses.arguments.sort_unstable();
+        Ok(uses)
+    }
+
+    /// Adds the items of the text, each up to its `.`.
+    fn add_items(&mut self, alloc: Global) -> Result<(), Memory> {
+        let text = self.text;
+        let mut finder = Finder::new(alloc);
+        let mut scanner = Scanner::of(alloc, text);
+        let mut start = 0;
+        for (place, byte) in text.as_bytes().iter().enumerate() {
+            if scanner.take(place, *byte)? {
+                self.add_item(&mut finder, scanner.marks(), start, place)?;
+                scanner.begin_item();
+                start = place.saturating_add(1);
+            }
+        }
+        Ok(())
+    }
+
+    /// Adds the item of these tokens, and of the bytes from a place up to its `.`.
+    fn add_item(
+        &mut self,
+        finder: &mut Finder,
+        marks: &[Mark],
+        start: usize,
+        end: usize,
+    ) -> Result<(), Memory> {
+        if declares(marks) {
+            return Ok(());
+        }
+        let is_clause = is_clause(marks);
+        if is_clause {
+            self.heads.insert(text_at(self.text, marks, 0))?;
+        }
+        finder.find(marks)?;
+        for word in finder.calls() {
+            self.add_call(marks, *word)?;
+        }
+        let calls = self.calls.len();
+        self.parts.push(Part {
+            start,
+            end,
+            is_clause,
+            calls,
+        })?;
+        Ok(())
+    }
+
+    fn add_call(&mut self, marks: &[Mark], word: usize) -> Result<(), Memory> {
+        let (predicate, _new) = self.called.insert_full(text_at(self.text, marks, word))?;
+        self.calls.push(Call {
+            predicate,
+            token: word,
+        })?;
+        put_arguments(marks, word, &mut self.begins)?;
+        for rank in 0..self.begins.len() {
+            self.add_argument(marks, predicate, rank)?;
+        }
+        Ok(())
+    }
+
+    fn add_argument(
+        &mut self,
+        marks: &[Mark],
+        predicate: usize,
+        rank: usize,
+    ) -> Result<(), Memory> {
+        let Some(place) = self.begins.get(rank).copied() else {
+            return Ok(());
+        };
+        let begin = match begin_at(marks, place) {
+            Begin::Other(begin) => begin,
+            Begin::Word => {
+                let word = text_at(self.text, marks, place);
+                let (constructor, _new) = self.constructors.insert_full(word)?;
+                constructor.saturating_add(WORD)
+            }
+        };
+        self.note((predicate, rank, begin))
+    }
+
+    /// Notes an argument, unless it is the one that was noted last at its place.
+    fn note(&mut self, argument: Argument) -> Result<(), Memory> {
+        match self.latest.get_mut(argument.1) {
+            Some(latest) => {
+                if *latest == argument {
+                    return Ok(());
+                }
+                *latest = argument;
+            }
+            None => self.latest.push(argument)?,
+        }
+        self.arguments.push(argument)?;
+        Ok(())
+    }
+
+    /// For each predicate that is called, whether no clause has it in its head.
+    pub(crate) fn without_clauses(&self, alloc: Global) -> Result<Vec<bool>, Memory> {
+        let mut without = Vec::with_capacity(alloc, self.called.len())?;
+        for word in self.called.as_slice() {
+            without.push(!self.heads.contains(*word))?;
+        }
+        Ok(without)
+    }
+
+    /// The place of a predicate among those that are called.
+    pub(crate) fn called_place(&self, predicate: &str) -> Option<usize> {
+        self.called.get_index_of(predicate)
+    }
+
+    fn has_argument(&self, argument: Argument) -> bool {
+        self.arguments.as_slice().binary_search(&argument).is_ok()
+    }
+
+    /// Whether a call may have the term at a place of a head as its argument of a rank: one has a term that begins so
+    /// there, or one that may be equal to any.
+    pub(crate) fn may_meet(
+        &self,
+        marks: &[Mark],
+        predicate: usize,
+        rank: usize,
+        place: usize,
+    ) -> bool {
+        let begin = match begin_at(marks, place) {
+            Begin::Other(begin) => begin,
+            Begin::Word => match self
+                .constructors
+                .get_index_of(text_at(self.text, marks, place))
+            {
+                Some(constructor) => constructor.saturating_add(WORD),
+                None => usize::MAX,
+            },
+        };
+        begin == ANY
+            || self.has_argument((predicate, rank, ANY))
+            || self.has_argument((predicate, rank, begin))
+    }
+}

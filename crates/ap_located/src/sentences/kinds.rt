@@ -1,0 +1,158 @@
+//! What is said where more than one choice of types fits, or a variable has a type that no term has.
+ghost use Rattle.std.specs.Prelude.{◌≡◌};
+
+use crate::items::{span_at, text_at};
+use crate::messages::{Message, Piece};
+use crate::nodes::{Node, node_at};
+use crate::sentences::closures::Question;
+use crate::sentences::declared::{Entry, Words};
+use crate::sentences::idents::Ident;
+use crate::sentences::subject::{Subject, say_declared, say_word};
+use crate::sentences::types::{Shape, Types};
+use crate::sentences::typing::Typing;
+use crate::sentences::written::say_type;
+use ap_defs::memory::Memory;
+use std::alloc::Global;
+
+/// Labels a variable or a name with what is known of its type.
+fn label_type(message: &mut Message, alloc: Global, typing: &Typing<'_, '_>, slot: usize) {
+    match typing.slots.types.shape(slot) {
+        Shape::Open => message.label(&[Piece::Text("nothing is known of its type")]),
+        Shape::OpenName => message.label(&[Piece::Text(
+            "its type is a name type, of which there are several",
+        )]),
+        _ => {
+            message.label(&[Piece::Text("its type is `")]);
+            say_type(message, alloc, &typing.words, &typing.slots.types, slot);
+            message.say(&[Piece::Text("`")]);
+        }
+    }
+}
+
+/// What is said of the type of a variable or a name.
+fn ident_message(
+    alloc: Global,
+    typing: &Typing<'_, '_>,
+    nodes: &[Node],
+    ident: Ident,
+    what: &'static str,
+) -> Message {
+    let token = node_at(nodes, ident.node).first;
+    let mut message = Message::new(alloc, span_at(typing.tokens, token));
+    let kind = if ident.is_name {
+        " of the name `"
+    } else {
+        " of the variable `"
+    };
+    message.say(&[Piece::Text(what), Piece::Text(kind)]);
+    say_word(&mut message, text_at(typing.tokens, token), "`");
+    label_type(&mut message, alloc, typing, ident.slot);
+    message
+}
+
+/// What is said where no variable or name is found to which it applies.
+fn vague_message(alloc: Global, typing: &Typing<'_, '_>, sentence: &str) -> Message {
+    let mut message = Message::new(alloc, span_at(typing.tokens, 0));
+    message.say(&[Piece::Text(sentence)]);
+    message
+}
+
+/// The first variable or name whose type is open.
+fn open_ident(alloc: Global, typing: &Typing<'_, '_>) -> Result<Option<Ident>, Memory> {
+    for ident in typing.idents.all() {
+        if typing.slots.types.is_open(alloc, ident.slot)? {
+            return Ok(Some(*ident));
+        }
+    }
+    Ok(None)
+}
+
+/// What is said where more than one choice of types fits an item.
+pub fn explain_open(
+    alloc: Global,
+    typing: &Typing<'_, '_>,
+    nodes: &[Node],
+) -> Result<Message, Memory> {
+    let mut message = match open_ident(alloc, typing)? {
+        Some(ident) => ident_message(alloc, typing, nodes, ident, "nothing fixes the type"),
+        None => vague_message(alloc, typing, "nothing fixes the types of the item"),
+    };
+    message.note(&[Piece::Text(
+        "types are found from the item alone: a predicate or constructor that it is an argument of fixes its type",
+    )]);
+    Ok(message)
+}
+
+/// A constructor of a data type.
+fn constructor_of<'a>(words: &Words<'a>, types: &Types, word: usize) -> Option<Entry<'a>> {
+    for entry in words.constructors.entries() {
+        if types.shape(entry.result) == Shape::Data(word) {
+            return Some(*entry);
+        }
+    }
+    None
+}
+
+/// Notes what the constructors of a type without terms need.
+fn note_constructors(
+    message: &mut Message,
+    subject: Subject<'_, '_>,
+    typing: &Typing<'_, '_>,
+    slot: usize,
+) {
+    if let Shape::Data(word) = typing.slots.types.shape(slot) {
+        match constructor_of(&typing.words, &typing.slots.types, word) {
+            Some(entry) => {
+                message.note(&[Piece::Text(
+                    "each constructor needs a term of a type without terms: ",
+                )]);
+                say_declared(message, subject, entry);
+            }
+            None => message.note(&[Piece::Text("it has no constructors before this item")]),
+        }
+    }
+}
+
+/// The first variable whose type has no terms.
+fn empty_ident(
+    alloc: Global,
+    typing: &Typing<'_, '_>,
+    answers: &[bool],
+) -> Result<Option<Ident>, Memory> {
+    for ident in typing.idents.all() {
+        let types = &typing.slots.types;
+        if !ident.is_name && !Question::HasTerm.answer(alloc, types, answers, ident.slot)? {
+            return Ok(Some(*ident));
+        }
+    }
+    Ok(None)
+}
+
+fn empty_message(
+    alloc: Global,
+    subject: Subject<'_, '_>,
+    typing: &Typing<'_, '_>,
+    nodes: &[Node],
+    ident: Ident,
+) -> Message {
+    let mut message = ident_message(alloc, typing, nodes, ident, "no term has the type");
+    note_constructors(&mut message, subject, typing, ident.slot);
+    message.note(&[Piece::Text(
+        "declare a constructor that needs no such term, in an item before",
+    )]);
+    message
+}
+
+/// What is said where a variable of an item has a type that no term has.
+pub fn explain_empty(
+    alloc: Global,
+    subject: Subject<'_, '_>,
+    typing: &Typing<'_, '_>,
+    nodes: &[Node],
+) -> Result<Message, Memory> {
+    let answers = Question::HasTerm.answers(alloc, &typing.words, &typing.slots.types)?;
+    match empty_ident(alloc, typing, answers.as_slice())? {
+        Some(ident) => Ok(empty_message(alloc, subject, typing, nodes, ident)),
+        None => Ok(vague_message(alloc, typing, "a variable has a type that no term has")),
+    }
+}
