@@ -15,6 +15,7 @@ pub mod PartTests
 pub mod InhabitedParts
 pub mod JoinLemmas
 pub mod WalkLemmas
+pub mod OrderLemmas
 pub mod WritingLemmas
 pub mod SettledLemmas
 pub mod ChoiceLemmas
