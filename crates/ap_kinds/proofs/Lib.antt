@@ -17,3 +17,4 @@ pub mod Findings
 pub mod SolvedLemmas
 pub mod ReadLemmas
 pub mod PlaceLemmas
+pub mod InhabitedLemmas

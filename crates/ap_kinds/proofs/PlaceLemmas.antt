@@ -1,13 +1,14 @@
 -- What is read off the places of a table, by what is read off their parts.
-use Rattle.std.proofs.Common.{◌≡◌, ◌<◌, ◌≤◌, ◌+◌, ◌⊎◌, ◌∙◌, ℕ, zero, suc, Bool, true, false, ◌||◌, List, [], ◌∷◌, ◌++◌, length, get_or, set, refl, sym, ap, subst, inl, inr, arith}
-use Rattle.std.specs.Prelude.{◌==◌}
+use Rattle.std.proofs.Common.{◌≡◌, ◌<◌, ◌≤◌, ◌+◌, ◌⊎◌, ◌∙◌, ℕ, zero, suc, Bool, true, false, ◌||◌, List, [], ◌∷◌, ◌++◌, length, get_or, set, refl, sym, ap, subst, inl, inr, arith, Option, Some, None, Result, Ok, Err}
+use Rattle.std.specs.Prelude.{◌==◌, IfOk, IfErr, IfSome}
+use Rattle.std.proofs.Math.Seq.{get_or-append_seam}
 use Rattle.std.proofs.lemmas.Bool.Decides.{eqb_tells}
-use Rattle.std.proofs.lemmas.List.{get_or-set_same, get_or-set_other}
+use Rattle.std.proofs.lemmas.List.{get_or-set_same, get_or-set_other, get_or_append_left, get_or_default, length-append}
 use Rattle.ap_defs.specs.Types.{TypeShape, hole, unit, names, base, pair, list, abs}
 use Rattle.ap_types.specs.declared.nodes.Node.{Node}
 use Rattle.ap_types.specs.declared.nodes.Node.TheVariants as nodes
 use Rattle.ap_types.specs.declared.solved.Solved.{Solved}
-use Rattle.ap_types.specs.Equations.{filled}
+use Rattle.ap_types.specs.Equations.{Filling, filled}
 use Rattle.ap_types.specs.Solving.{shape_at}
 use Rattle.ap_types.specs.Triangular.{layer_of, shapes_of_nodes, value_of, assignment_of, IsSettledTable}
 use Rattle.ap_types.specs.Walking.{is_part, IsPart, AreInOrder}
@@ -16,7 +17,7 @@ use Rattle.ap_types.proofs.TableLemmas.{at_past, layer_at, length_table}
 use Rattle.ap_types.proofs.SettledLemmas.{open_value, past_value, length_values, value_at}
 use Rattle.ap_kinds.specs.declared.read_types.Declared.{Declared}
 use Rattle.ap_kinds.specs.declared.read_types.TypeRead.{TypeRead}
-use Rattle.ap_kinds.specs.ReadTypes.{IsReadBy, AreReadAt, AreFirstRead, read_at, open_read}
+use Rattle.ap_kinds.specs.ReadTypes.{IsReadBy, AreReadAt, AreAllRead, AreFirstRead, read_at, open_read}
 
 below_or_past : (i j : ℕ) → (i < j) ⊎ (j ≤ i)
 below_or_past i j = grind arith
@@ -76,8 +77,8 @@ hole_value s x l = value_at (shapes_of_nodes s.nodes.items) s.holes x l
 pub hole_past : (s : Solved) (x : ℕ) → s.holes ≤ x → shape_at (assignment_of s) x ≡ hole x
 hole_past s x l = let long = length_values (shapes_of_nodes s.nodes.items) 0 s.holes in at_past (assignment_of s) x (omega arith)
 
-pub place_past : (s : Solved) (x : ℕ) → length s.nodes.items ≤ x → value_of (shapes_of_nodes s.nodes.items) x ≡ hole x
-place_past s x l = let long = length_table s.nodes.items in past_value (shapes_of_nodes s.nodes.items) x (omega arith)
+pub hole_unread : (s : Solved) (x : ℕ) → x < s.holes → length (shapes_of_nodes s.nodes.items) ≤ x → shape_at (assignment_of s) x ≡ hole x
+hole_unread s x l b = hole_value s x l ∙ past_value (shapes_of_nodes s.nodes.items) x b
 
 -- The places that were read so far are the first ones in order.
 pub record AreReadSoFar (d : Declared) (ts : List TypeShape) (order : List ℕ) (i : ℕ) (rs : List TypeRead) : Type 0 where
@@ -92,9 +93,9 @@ pub parts_read : (d : Declared) (ts : List TypeShape) (order : List ℕ) (i : �
     → AreReadAt d ts rs (IsPart ts (get_or order i 0))
 parts_read d ts order i rs o h l c p =
     let j = o.behind i c l p in
-    let b = j.2.0 in
+    let b = j.1 in
     let w : get_or order j.0 0 < length ts = o.within j.0 (omega (arith, b, l)) in
-    let e = j.2.1 in
+    let e = j.2 in
     let m = h.as_many in
     (subst (λ x. x < length rs) e (omega (arith, w, m)), subst (λ x. IsReadBy d (value_of ts x) (read_at rs x)) e (h.each j.0 b (omega (arith, b, l))))
 
@@ -122,9 +123,55 @@ one_read d ts order i rs r o h l v = record {
 }
 
 -- all were read
-pub all_read : (d : Declared) (ts : List TypeShape) (order : List ℕ) (i n : ℕ) (rs : List TypeRead) → n ≡ length ts → AreInOrder ts order → AreReadSoFar d ts order i rs → length order ≤ i → AreReadAt d ts rs (λ x. x < n)
-all_read d ts order i n rs e o h l x b =
-    let k = o.whole x (omega (arith, b, e)) in
-    let m = h.as_many in
-    let c = k.2.0 in
-    (omega (arith, b, e, m), subst (λ y. IsReadBy d (value_of ts y) (read_at rs y)) k.2.1 (h.each k.0 (omega (arith, c, l)) c))
+pub all_read : (d : Declared) (ts : List TypeShape) (order : List ℕ) (i : ℕ) (rs : List TypeRead) → AreInOrder ts order → AreReadSoFar d ts order i rs → length order ≤ i → AreAllRead d ts rs
+all_read d ts order i rs o h l = record {
+  as_many = h.as_many;
+  each = λ x b. let k = o.whole x b in let c = k.1 in subst (λ y. IsReadBy d (value_of ts y) (read_at rs y)) k.2 (h.each k.0 (omega (arith, c, l)) c);
+}
+
+-- What stands for a place.
+pub entry_open : (f : Filling) (x y : ℕ) (n : Node) → IsEntryOf f x n → n ≡ nodes.Place y → f x ≡ hole y
+entry_open f x y n h e = h.stands ∙ ap (λ m. filled f (layer_of m)) e ∙ h.open_place y e
+
+pub entry_as : (f : Filling) (x : ℕ) (n m : Node) → IsEntryOf f x n → n ≡ m → f x ≡ filled f (layer_of m)
+entry_as f x n m h e = h.stands ∙ ap (λ k. filled f (layer_of k)) e
+
+-- The same shape is read the same.
+pub read_as : (d : Declared) (t u : TypeShape) (r : TypeRead) → t ≡ u → IsReadBy d u r → IsReadBy d t r
+read_as d t u r e h = subst (λ v. IsReadBy d v r) (sym e) h
+
+-- What a call gives.
+pub given : {T E : Type 0} {P Q : T → Type 0} (res : Result T E) → ((r : T) → P r → Q r) → IfOk res P → IfOk res Q
+given (Ok r) f h = f r h
+given (Err e) f h = tt
+
+pub given_err : {T E : Type 0} {P Q : E → Type 0} (res : Result T E) → ((e : E) → P e → Q e) → IfErr res P → IfErr res Q
+given_err (Ok r) f h = tt
+given_err (Err e) f h = f e h
+
+pub given_some : {T : Type 0} {P Q : T → Type 0} (res : Option T) → ((r : T) → P r → Q r) → IfSome res P → IfSome res Q
+given_some (Some r) f h = f r h
+given_some None f h = tt
+
+-- what the program reads at an index
+pub read_index : (d : Declared) (t : TypeShape) (rs : List TypeRead) (x : ℕ) (r : TypeRead) → x < length rs → r ≡ get_or rs x r → IsReadBy d t (read_at rs x) → IsReadBy d t r
+read_index d t rs x r l e h = subst (λ q. IsReadBy d t q) (sym (e ∙ get_or_default rs x r open_read l)) h
+
+-- the first holes, one after the other
+pub no_first : (d : Declared) (ts : List TypeShape) (rs : List TypeRead) → rs ≡ [] → AreFirstRead d 0 ts rs
+no_first d ts rs e = record { as_many = ap length e; each = λ x l. absurd (omega (arith, l)) }
+
+last_there : (x n : ℕ) → x < n + 1 → (x < n) ⊎ (x ≡ n)
+last_there x n l = grind arith
+
+pub one_first : (d : Declared) (ts : List TypeShape) (rs new : List TypeRead) (r : TypeRead) (x : ℕ) → AreFirstRead d x ts rs → IsReadBy d (shape_at ts x) r → new ≡ rs ++ r ∷ [] → AreFirstRead d (x + 1) ts new
+one_first d ts rs new r x h k e = subst (AreFirstRead d (x + 1) ts) (sym e) (record {
+  as_many = let m = h.as_many in length-append rs (r ∷ []) ∙ ap (λ n. n + 1) m;
+  each = λ y l. elim (last_there y x l) [
+    | inl b ↦ let m = h.as_many in subst (IsReadBy d (shape_at ts y)) (sym (get_or_append_left rs (r ∷ []) open_read y (omega (arith, b, m)))) (h.each y b)
+    | inr s ↦
+        let m = h.as_many in
+        let at : read_at (rs ++ r ∷ []) y ≡ r = ap (λ n. read_at (rs ++ r ∷ []) n) (s ∙ sym m) ∙ get_or-append_seam rs r [] open_read in
+        subst (λ q. IsReadBy d (shape_at ts y) q) (sym at) (subst (λ n. IsReadBy d (shape_at ts n) r) (sym s) k)
+  ];
+})

@@ -44,16 +44,24 @@ read_at rs x = slice_index_or rs x open_read
 abbrev pub AreReadAt : Declared → List TypeShape → List TypeRead → (ℕ → Type 0) → Type 0
 AreReadAt d ts rs P = (x : ℕ) → P x → (x < length rs) × IsReadBy d (value_of ts x) (read_at rs x)
 
+-- All places were read.
+pub record AreAllRead (d : Declared) (ts : List TypeShape) (rs : List TypeRead) : Type 0 where
+  pub as_many : length rs ≡ length ts
+  pub each : (x : ℕ) → x < length ts → IsReadBy d (value_of ts x) (read_at rs x)
+
 -- the first holes were read
 pub record AreFirstRead (d : Declared) (count : ℕ) (ts : List TypeShape) (rs : List TypeRead) : Type 0 where
   pub as_many : length rs ≡ count
   pub each : (x : ℕ) → x < count → IsReadBy d (shape_at ts x) (read_at rs x)
 
--- whether the variables' types are inhabited, where it is given which data types are
+-- whether it is a name or a variable of an inhabited type, where it is given which data types are inhabited
+abbrev pub kind_inhabited_if : (ℕ → Bool) → NominalKind → Bool
+kind_inhabited_if p (types.name s) = true
+kind_inhabited_if p (types.var t) = inhabited_if p t
+
 abbrev pub are_inhabited_if : (ℕ → Bool) → List NominalKind → Bool
 are_inhabited_if p [] = true
-are_inhabited_if p (types.name s ∷ ks) = are_inhabited_if p ks
-are_inhabited_if p (types.var t ∷ ks) = inhabited_if p t && are_inhabited_if p ks
+are_inhabited_if p (k ∷ ks) = kind_inhabited_if p k && are_inhabited_if p ks
 
 -- The declarations are those of a signature.
 pub record IsDeclaredBy (d : Declared) (sig : NominalSignature) : Type 0 where

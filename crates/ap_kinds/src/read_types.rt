@@ -1,9 +1,7 @@
 //! What is read off the shapes of a table.
 
-ghost use Rattle.std.specs.Prelude.{◌≡◌, ℕ, Bool, MatchOption, IfOk};
-ghost use Rattle.ap_defs.specs.Types.{TypeShape, type_of, hole, pair, list, abs};
-ghost use Rattle.ap_types.specs.Rounds.{marked};
-ghost use Rattle.ap_types.specs.Triangular.{layer_of};
+ghost use Rattle.std.specs.Prelude.{◌≡◌, ℕ, Bool, IfOk};
+ghost use Rattle.ap_defs.specs.Types.{TypeShape, type_of, kind_of, hole, unit, names, base, pair, list, abs};
 ghost use Rattle.ap_kinds.specs.Reading.{read_kind};
 ghost use Rattle.ap_kinds.specs.ReadTypes.{IsRead, IsReadBy, sort_in_type, is_sort_type};
 
@@ -13,7 +11,6 @@ use ap_defs::goals::Kind;
 use ap_defs::memory::Memory;
 use ap_defs::terms::Ty;
 use ap_types::inhabitants::{Inhabitants, is_base_inhabited};
-use ap_types::nodes::Node;
 use std::alloc::Global;
 use std::sync::Arc;
 
@@ -48,30 +45,39 @@ pub(crate) fn read_open() -> TypeRead
     }
 }
 
-/// What is read off an entry without parts.
-pub(crate) fn read_leaf(by: Declared<'_>, node: Node) -> Option<TypeRead>
-    ensures { MatchOption result [] (λ r. IsReadBy by (layer_of node) r) }
+/// What is read off the type of one value.
+pub(crate) fn read_unit() -> TypeRead
+    ensures { (n m : ℕ) (p : ℕ → Bool) → IsRead n m p unit result }
 {
-    match node {
-        Node::Unit => Some(TypeRead {
-            ty: Ty::Unit,
-            declared: true,
-            closed: true,
-            inhabited: true,
-        }),
-        Node::Names(sort) => Some(TypeRead {
-            ty: Ty::Names(sort),
-            declared: (sort as usize) < by.name_types,
-            closed: true,
-            inhabited: true,
-        }),
-        Node::Base(data) => Some(TypeRead {
-            ty: Ty::Base(data),
-            declared: (data as usize) < by.data_types,
-            closed: true,
-            inhabited: is_base_inhabited(by.inhabitants, data),
-        }),
-        Node::Place(_) | Node::Pair(_, _) | Node::List(_) | Node::Abs(_, _) => None,
+    TypeRead {
+        ty: Ty::Unit,
+        declared: true,
+        closed: true,
+        inhabited: true,
+    }
+}
+
+/// What is read off a name type.
+pub(crate) fn read_names(by: Declared<'_>, sort: u32) -> TypeRead
+    ensures { IsReadBy by.entry (names sort) result }
+{
+    TypeRead {
+        ty: Ty::Names(sort),
+        declared: (sort as usize) < by.name_types,
+        closed: true,
+        inhabited: true,
+    }
+}
+
+/// What is read off a data type.
+pub(crate) fn read_base(by: Declared<'_>, data_type: u32) -> TypeRead
+    ensures { IsReadBy by.entry (base data_type) result }
+{
+    TypeRead {
+        ty: Ty::Base(data_type),
+        declared: (data_type as usize) < by.data_types,
+        closed: true,
+        inhabited: is_base_inhabited(by.inhabitants, data_type),
     }
 }
 
@@ -80,8 +86,9 @@ pub(crate) fn copy_read(read: &TypeRead) -> Result<TypeRead, Memory>
     ensures { IfOk result (λ r. (n m : ℕ) (p : ℕ → Bool) (t : TypeShape) →
         IsRead n m p t read.now → IsRead n m p t r) }
 {
+    let ty = copy_type(&read.ty)?;
     Ok(TypeRead {
-        ty: copy_type(&read.ty)?,
+        ty,
         declared: read.declared,
         closed: read.closed,
         inhabited: read.inhabited,
@@ -100,9 +107,10 @@ pub(crate) fn read_pair(alloc: Global, left: &TypeRead, right: &TypeRead) -> Res
     ensures { IfOk result (λ r. (n m : ℕ) (p : ℕ → Bool) (t u : TypeShape) →
         IsRead n m p t left.now → IsRead n m p u right.now → IsRead n m p (pair t u) r) }
 {
-    let ty = Ty::Pair(shared(alloc, &left.ty)?, shared(alloc, &right.ty)?);
+    let first = shared(alloc, &left.ty)?;
+    let second = shared(alloc, &right.ty)?;
     Ok(TypeRead {
-        ty,
+        ty: Ty::Pair(first, second),
         declared: left.declared && right.declared,
         closed: left.closed && right.closed,
         inhabited: left.inhabited && right.inhabited,
@@ -114,8 +122,9 @@ pub(crate) fn read_list(alloc: Global, element: &TypeRead) -> Result<TypeRead, M
     ensures { IfOk result (λ r. (n m : ℕ) (p : ℕ → Bool) (t : TypeShape) →
         IsRead n m p t element.now → IsRead n m p (list t) r) }
 {
+    let part = shared(alloc, &element.ty)?;
     Ok(TypeRead {
-        ty: Ty::List(shared(alloc, &element.ty)?),
+        ty: Ty::List(part),
         declared: element.declared,
         closed: element.closed,
         inhabited: true,
@@ -144,9 +153,9 @@ pub(crate) fn read_abs(alloc: Global, left: &TypeRead, body: &TypeRead) -> Resul
     ensures { IfOk result (λ r. (n m : ℕ) (p : ℕ → Bool) (t u : TypeShape) →
         IsRead n m p t left.now → IsRead n m p u body.now → IsRead n m p (abs t u) r) }
 {
-    let ty = Ty::Abs(sort_in(&left.ty), shared(alloc, &body.ty)?);
+    let part = shared(alloc, &body.ty)?;
     Ok(TypeRead {
-        ty,
+        ty: Ty::Abs(sort_in(&left.ty), part),
         declared: left.declared && body.declared,
         closed: is_sort(&left.ty) && body.closed,
         inhabited: body.inhabited,

@@ -1,10 +1,10 @@
 //! Kinds that are read off the shapes of holes.
 
-ghost use Rattle.std.specs.Prelude.{◌≡◌, ◌≤◌, ℕ, List as list, length, map, true, false, IfOk, IfErr};
+ghost use Rattle.std.specs.Prelude.{◌≡◌, ◌≤◌, ℕ, Bool, List as list, length, map, true, false, IfOk, IfErr};
 ghost use Rattle.ap_defs.specs.Types.{TypeShape, NominalSignature, kind_of};
 ghost use Rattle.ap_program.specs.Typed.{AreInhabited};
-ghost use Rattle.ap_kinds.specs.Reading.{read_kinds, AllDeclared, SomeUndeclared, AllClosed, SomeOpen, AreKindsRead, IsUnread};
-ghost use Rattle.ap_kinds.specs.ReadTypes.{AreFirstRead, IsDeclaredBy, are_inhabited_if, marks_of};
+ghost use Rattle.ap_kinds.specs.Reading.{read_kind, read_kinds, AllDeclared, SomeUndeclared, AllClosed, SomeOpen, AreKindsRead, IsUnread};
+ghost use Rattle.ap_kinds.specs.ReadTypes.{IsRead, AreFirstRead, IsDeclaredBy, kind_inhabited_if, are_inhabited_if, marks_of};
 
 use crate::errors::KindsError;
 use crate::kinds::IdentKind;
@@ -43,6 +43,17 @@ fn are_closed(reads: &[TypeRead]) -> bool
     true
 }
 
+/// Whether an identifier is a name, or a variable of an inhabited type.
+fn is_name_or_inhabited(ident: IdentKind, read: &TypeRead) -> bool
+    ensures { (n m : ℕ) (p : ℕ → Bool) (t : TypeShape) → IsRead n m p t read.now →
+        result ≡ kind_inhabited_if p (read_kind ident t) }
+{
+    match ident {
+        IdentKind::Name => true,
+        IdentKind::Var => read.inhabited,
+    }
+}
+
 /// Whether the type of each variable is inhabited.
 fn are_inhabited(idents: &[IdentKind], reads: &[TypeRead]) -> bool
     requires { length idents.now ≤ length reads.now }
@@ -51,7 +62,7 @@ fn are_inhabited(idents: &[IdentKind], reads: &[TypeRead]) -> bool
         result ≡ are_inhabited_if (marks_of by) (read_kinds ts 0 idents.now) }
 {
     for (i, ident) in idents.iter().enumerate() {
-        if matches!(ident, IdentKind::Var) && !reads[i].inhabited {
+        if !is_name_or_inhabited(*ident, &reads[i]) {
             return false;
         }
     }
@@ -71,7 +82,8 @@ fn read_kinds(
 {
     let mut kinds = Vec::with_capacity(alloc, idents.len())?;
     for (i, ident) in idents.iter().enumerate() {
-        kinds.push(kind_of_read(*ident, &reads[i])?)?;
+        let kind = kind_of_read(*ident, &reads[i])?;
+        kinds.push(kind)?;
     }
     Ok(kinds)
 }
@@ -102,5 +114,6 @@ pub(crate) fn read_inhabited(
     if !are_inhabited(idents, reads) {
         return Err(KindsError::Empty);
     }
-    Ok(read_kinds(alloc, idents, reads)?)
+    let kinds = read_kinds(alloc, idents, reads)?;
+    Ok(kinds)
 }
