@@ -11,13 +11,13 @@ pub returns-then-x-table : goal.returns-then-x-table
 returns-then-x-table c by h =
     let s = c.args.table.now in
     let x = c.args.x in
-    let open = c.read_open.ensures by.name_types by.data_types (marks_of by) x in
+    let unread = c.read_open.ensures by.name_types by.data_types (marks_of by) x in
     elim c.then-x-table.branch [
-      | then-x-table-via-then-x-table w ↦ read_as by (shape_at (assignment_of s) x) (hole x) c.read_open.result (hole_past s x w.if-x-table.true) open
+      | then-x-table-via-then-x-table w ↦ read_as by (shape_at (assignment_of s) x) (hole x) c.read_open.result (hole_past s x w.if-x-table.true) unread
       | then-x-table-via-else-x-table+then-x-reads w ↦
           let many = h.as_many in
           let past = w.if-x-reads.true in
-          read_as by (shape_at (assignment_of s) x) (hole x) c.read_open.result (hole_unread s x w.if-x-table.false (omega (arith, many, past))) open
+          read_as by (shape_at (assignment_of s) x) (hole x) c.read_open.result (hole_unread s x w.if-x-table.false (omega (arith, many, past))) unread
     ]
 
 pub returns : goal.returns
