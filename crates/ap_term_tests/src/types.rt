@@ -107,7 +107,7 @@ fn lambda_terms_may_hold_their_names(rt: HostRuntime) {
 /// Whether a type may hold names of the first sort, for the lambda terms, by a table.
 fn is_in_table(alloc: Global, ty: &Ty) -> Result<bool, Memory> {
     let table = types_holding(alloc, &lambda_terms(alloc)?, 0)?;
-    Ok(holds(&table, ty))
+    holds(alloc, &table, ty)
 }
 
 #[test]

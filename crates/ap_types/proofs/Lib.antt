@@ -13,6 +13,7 @@ pub mod PartLemmas
 pub mod PlainLemmas
 pub mod PartTests
 pub mod InhabitedParts
+pub mod BarredParts
 pub mod JoinLemmas
 pub mod WalkLemmas
 pub mod OrderLemmas
