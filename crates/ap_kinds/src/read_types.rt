@@ -103,7 +103,11 @@ fn shared(alloc: Global, ty: &Ty) -> Result<Arc<Ty>, Memory>
 }
 
 /// What is read off a pair, by what is read off its parts.
-pub(crate) fn read_pair(alloc: Global, left: &TypeRead, right: &TypeRead) -> Result<TypeRead, Memory>
+pub(crate) fn read_pair(
+    alloc: Global,
+    left: &TypeRead,
+    right: &TypeRead,
+) -> Result<TypeRead, Memory>
     ensures { IfOk result (λ r. (n m : ℕ) (p : ℕ → Bool) (t u : TypeShape) →
         IsRead n m p t left.now → IsRead n m p u right.now → IsRead n m p (pair t u) r) }
 {

@@ -70,11 +70,7 @@ fn are_inhabited(idents: &[IdentKind], reads: &[TypeRead]) -> bool
 }
 
 /// The kinds of identifiers whose shapes were read.
-fn read_kinds(
-    alloc: Global,
-    idents: &[IdentKind],
-    reads: &[TypeRead],
-) -> Result<Vec<Kind>, Memory>
+fn read_kinds(alloc: Global, idents: &[IdentKind], reads: &[TypeRead]) -> Result<Vec<Kind>, Memory>
     requires { length idents.now ≤ length reads.now }
     ensures { IfOk result (λ ks. (by : Declared) (ts : list TypeShape) →
         AreFirstRead by (length idents.now) ts reads.now →

@@ -7,8 +7,8 @@ ghost use Rattle.ap_types.specs.Walking.{IsPart, AreInOrder};
 ghost use Rattle.ap_kinds.specs.ReadTypes.{IsReadBy, AreReadAt, AreAllRead, AreFirstRead, read_at};
 
 use crate::read_types::{
-    Declared, TypeRead, copy_read, read_abs, read_base, read_list, read_names, read_open, read_pair,
-    read_unit,
+    Declared, TypeRead, copy_read, read_abs, read_base, read_list, read_names, read_open,
+    read_pair, read_unit,
 };
 use ap_defs::memory::Memory;
 use ap_types::nodes::Node;

@@ -27,8 +27,8 @@ returns c =
     let t = value_of (shapes_of_nodes s.nodes.items) x in
     given c.copy_read.result
     (λ r k by h.
-        let many = h.as_many in
-        let here = c.if-x-reads.false in
-        let read = subst (λ q. IsReadBy by t q) (sym c.read_of_place-read.ensures) (h.each x (omega (arith, many, here))) in
-        read_as by (shape_at (assignment_of s) x) t r (hole_value s x c.if-x-table.false) (k by.name_types by.data_types (marks_of by) t read))
+    let many = h.as_many in
+    let here = c.if-x-reads.false in
+    let read = subst (λ q. IsReadBy by t q) (sym c.read_of_place-read.ensures) (h.each x (omega (arith, many, here))) in
+    read_as by (shape_at (assignment_of s) x) t r (hole_value s x c.if-x-table.false) (k by.name_types by.data_types (marks_of by) t read))
     c.copy_read.ensures
