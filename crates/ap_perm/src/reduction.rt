@@ -14,7 +14,7 @@ use crate::closures::Closure;
 use crate::error::FreshError;
 use crate::joining::numbered;
 use crate::look::Look;
-use crate::pending::{Pending, Problems};
+use crate::pending::Pending;
 use crate::sets::make_set;
 use crate::swappings::swapped;
 use ap_defs::terms::{Cond, Name, Swap, Term, Var};
@@ -47,8 +47,9 @@ fn collect<L: Look>(first: Pending<'_>, look: &L, conds: &mut Vec<Cond>) -> Resu
         by_rules first.entry.name (carried_out (L.bound look.now) (L.rank look.now)
         (pending_term first.entry)) ≡ None }
 {
-    let mut left = Problems::of(*conds.allocator(), first);
-    'collecting: while let Some(p) = left.take() {
+    let mut left = Vec::new(*conds.allocator());
+    left.push(first)?;
+    'collecting: while let Some(p) = left.pop() {
         match p.term {
             Term::Unit => {}
             Term::Name(b) => {
@@ -57,17 +58,17 @@ fn collect<L: Look>(first: Pending<'_>, look: &L, conds: &mut Vec<Cond>) -> Resu
                 }
             }
             Term::Pair(t, u) => {
-                left.put(p.within(t))?;
-                left.put(p.within(u))?;
+                left.push(p.within(t))?;
+                left.push(p.within(u))?;
             }
-            Term::App(_, argument) => left.put(p.within(argument))?,
+            Term::App(_, argument) => left.push(p.within(argument))?,
             Term::Abs(sort, num, body) => {
                 let b = Name {
                     sort: *sort,
                     num: *num,
                 };
                 if p.name != numbered(p.base, b) {
-                    left.put(p.within(body))?;
+                    left.push(p.within(body))?;
                 }
             }
             Term::Susp(swaps, x) => {
@@ -77,7 +78,7 @@ fn collect<L: Look>(first: Pending<'_>, look: &L, conds: &mut Vec<Cond>) -> Resu
                 };
                 match look.look(var) {
                     None => conds.push(Cond { name, var })?,
-                    Some(c) => left.put(Pending::bound(name, c))?,
+                    Some(c) => left.push(Pending::bound(name, c))?,
                 }
             }
         }
