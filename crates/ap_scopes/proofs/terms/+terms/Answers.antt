@@ -31,8 +31,8 @@ resolved_tuple-loop-rest-preserved t c =
       smaller = let k : terms_size (terms.More (term_of c.in-More.first) more) ≤ terms_size (terms_of c.args.args.now) = rw is at c.loop-rest.invariant.smaller in omega arith;
     }
 
-pub resolved_spine-loop-rest-preserved-in-Pair : goal.resolved_spine-loop-rest-preserved-in-Pair
-resolved_spine-loop-rest-preserved-in-Pair t c =
+pub innermost_term-loop-rest-preserved-in-Pair : goal.innermost_term-loop-rest-preserved-in-Pair
+innermost_term-loop-rest-preserved-in-Pair t c =
     let d = declared_of c.args.declared.now in
     let s = scope_of c.args.scope.now in
     let first = c.in_ok-resolved_term-in-Pair.field-0 in
@@ -49,8 +49,8 @@ resolved_spine-loop-rest-preserved-in-Pair t c =
       smaller = let k : term_size (terms.Pair left right) ≤ term_size (term_of c.args.tree.now) = rw is at c.loop-rest.invariant.smaller in omega arith;
     }
 
-pub resolved_spine-loop-rest-preserved-in-Cell : goal.resolved_spine-loop-rest-preserved-in-Cell
-resolved_spine-loop-rest-preserved-in-Cell t c =
+pub innermost_term-loop-rest-preserved-in-Cell : goal.innermost_term-loop-rest-preserved-in-Cell
+innermost_term-loop-rest-preserved-in-Cell t c =
     let d = declared_of c.args.declared.now in
     let s = scope_of c.args.scope.now in
     let first = c.in_ok-resolved_term-in-Cell.field-0 in
@@ -67,8 +67,8 @@ resolved_spine-loop-rest-preserved-in-Cell t c =
       smaller = let k : term_size (terms.Cell head tail) ≤ term_size (term_of c.args.tree.now) = rw is at c.loop-rest.invariant.smaller in omega arith;
     }
 
-pub resolved_spine-loop-rest-preserved-in-Abs : goal.resolved_spine-loop-rest-preserved-in-Abs
-resolved_spine-loop-rest-preserved-in-Abs t c =
+pub innermost_term-loop-rest-preserved-in-Abs : goal.innermost_term-loop-rest-preserved-in-Abs
+innermost_term-loop-rest-preserved-in-Abs t c =
     let d = declared_of c.args.declared.now in
     let s = scope_of c.args.scope.now in
     let id = c.in_ok-binder-in-Abs.field-0 in
@@ -84,8 +84,8 @@ resolved_spine-loop-rest-preserved-in-Abs t c =
       smaller = let k : term_size (terms.Abs spelling body) ≤ term_size (term_of c.args.tree.now) = rw is at c.loop-rest.invariant.smaller in omega arith;
     }
 
-pub resolved_spine-loop-rest-preserved : goal.resolved_spine-loop-rest-preserved
-resolved_spine-loop-rest-preserved t c =
+pub innermost_term-loop-rest-preserved : goal.innermost_term-loop-rest-preserved
+innermost_term-loop-rest-preserved t c =
     let d = declared_of c.args.declared.now in
     let s = scope_of c.args.scope.now in
     let i = c.in_ok-left-in-Swapped.left in

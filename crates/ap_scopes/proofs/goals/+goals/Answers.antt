@@ -11,10 +11,10 @@ use Rattle.ap_scopes.specs.Resolution.{made, resolved_goal, numbered_name, numbe
 use Rattle.ap_scopes.specs.Views.{declared_of, scope_of, found_of}
 use Rattle.ap_scopes.proofs.LayerLemmas.{then_is, goal_goes_in, goal_end}
 use Rattle.ap_scopes.proofs.TreeSizes.{goal_size}
-use Rattle.ap_scopes.proofs.goals.+resolved_goal.Goals as goal
+use Rattle.ap_scopes.proofs.goals.+goals.Goals as goal
 
-pub loop-rest-preserved-in-Both : goal.loop-rest-preserved-in-Both
-loop-rest-preserved-in-Both t c =
+pub innermost_goal-loop-rest-preserved-in-Both : goal.innermost_goal-loop-rest-preserved-in-Both
+innermost_goal-loop-rest-preserved-in-Both t c =
     let d = declared_of c.args.declared.now in
     let s = scope_of c.args.scope.now in
     let first = c.in_ok-resolved_goal-in-Both.field-0 in
@@ -31,8 +31,8 @@ loop-rest-preserved-in-Both t c =
       smaller = let k : goal_size (goals.Both left right) ≤ goal_size (goal_of_tree c.args.goal.now) = rw is at c.loop-rest.invariant.smaller in omega arith;
     }
 
-pub loop-rest-preserved : goal.loop-rest-preserved
-loop-rest-preserved t c =
+pub innermost_goal-loop-rest-preserved : goal.innermost_goal-loop-rest-preserved
+innermost_goal-loop-rest-preserved t c =
     let d = declared_of c.args.declared.now in
     let s = scope_of c.args.scope.now in
     let first = c.in_ok-resolved_goal-in-Either.field-0 in
@@ -49,42 +49,3 @@ loop-rest-preserved t c =
       smaller = let k : goal_size (goals.Either left right) ≤ goal_size (goal_of_tree c.args.goal.now) = rw is at c.loop-rest.invariant.smaller in omega arith;
     }
 
-pub returns-in-Exists-clause-value : goal.returns-in-Exists-clause-value
-returns-in-Exists-clause-value t c =
-    let d = declared_of c.args.declared.now in
-    let s = scope_of c.args.scope.now in
-    let w = c.in-Exists.word.now in
-    let n = c.in_ok-num-in-Exists.num in
-    let inside = goal_of_tree c.in-Exists.inner.value in
-    let made_inner = c.in_ok-inner-in-Exists.inner in
-    let before = found_of c.loop-rest.found in
-    let between = found_of c.bring.new.self in
-    let after = found_of c.resolved_goal-in-Exists.new.found in
-    let part = resolved_goal d ((OfVar w, n) ∷ s) inside between in
-    let whole : resolved_goal d s (goal_of_tree c.loop-rest.rest.now) before ≡ made (exists (numbered_var n)) part =
-    ap (λ (u : GoalTree). resolved_goal d s (goal_of_tree u) before) c.in-Exists.is
-    ∙ ap (λ (p : Numbering). made (exists (numbered_var p.0)) (resolved_goal d ((OfVar w, p.0) ∷ s) inside p.1)) (sym c.in_ok-num-in-Exists.ensures.value) in
-    let value : (goal_over raw_of made_inner, after) ≡ part =
-    c.in_ok-inner-in-Exists.ensures.value ∙ ap (λ (u : GoalTree). resolved_goal d ((OfVar w, n) ∷ s) (goal_of_tree u) between) c.deref-in-Exists.ensures in
-    goal_end c.close_goal-in-Exists.result c.push-in-Exists.new.self.items (goal_over raw_of made_inner) after part _ c.close_goal-in-Exists.ensures value
-    (goal_goes_in c.loop-rest.layers.items c.push-in-Exists.new.self.items (around.Exists (numbered_var n)) (resolved_goal d s (goal_of_tree c.loop-rest.rest.now) before) part _ c.in_ok-push-in-Exists.ensures.items whole c.loop-rest.invariant.all)
-
-pub returns-in-New-clause-value : goal.returns-in-New-clause-value
-returns-in-New-clause-value t c =
-    let d = declared_of c.args.declared.now in
-    let s = scope_of c.args.scope.now in
-    let w = c.in-New.word.now in
-    let n = c.in_ok-num-in-New.num in
-    let inside = goal_of_tree c.in-New.inner.value in
-    let made_inner = c.in_ok-inner-in-New.inner in
-    let before = found_of c.loop-rest.found in
-    let between = found_of c.bring-in-New.new.self in
-    let after = found_of c.resolved_goal-in-New.new.found in
-    let part = resolved_goal d ((OfWord w, n) ∷ s) inside between in
-    let whole : resolved_goal d s (goal_of_tree c.loop-rest.rest.now) before ≡ made (new (numbered_name n)) part =
-    ap (λ (u : GoalTree). resolved_goal d s (goal_of_tree u) before) c.in-New.is
-    ∙ ap (λ (p : Numbering). made (new (numbered_name p.0)) (resolved_goal d ((OfWord w, p.0) ∷ s) inside p.1)) (sym c.in_ok-num-in-New.ensures.value) in
-    let value : (goal_over raw_of made_inner, after) ≡ part =
-    c.in_ok-inner-in-New.ensures.value ∙ ap (λ (u : GoalTree). resolved_goal d ((OfWord w, n) ∷ s) (goal_of_tree u) between) c.deref-in-New.ensures in
-    goal_end c.close_goal-in-New.result c.push-in-New.new.self.items (goal_over raw_of made_inner) after part _ c.close_goal-in-New.ensures value
-    (goal_goes_in c.loop-rest.layers.items c.push-in-New.new.self.items (around.New (numbered_name n)) (resolved_goal d s (goal_of_tree c.loop-rest.rest.now) before) part _ c.in_ok-push-in-New.ensures.items whole c.loop-rest.invariant.all)
