@@ -6,7 +6,9 @@ use Rattle.ap_defs.specs.Renaming.{rename_term}
 use Rattle.ap_defs.specs.Terms.{NominalTerm, term_of}
 use Rattle.ap_defs.specs.declared.terms.Cond.{Cond}
 use Rattle.ap_defs.specs.declared.terms.Name.{Name}
+use Rattle.std.specs.Option.{option_to_list}
 use Rattle.ap_perm.specs.declared.pending.Pending.{Pending}
+use Rattle.ap_perm.specs.declared.pending.Problems.{Problems}
 
 -- the conditions of a list behind others, from the last to the first
 abbrev pub put_behind : List Cond → List Cond → List Cond
@@ -25,3 +27,7 @@ IsLeast a t cs = (ds : Conds) → fresh_under ds a t ≡ list_all (λ c. has_con
 -- what the name of a problem that is left is to be fresh for
 abbrev pub pending_term : Pending → NominalTerm
 pending_term p = rename_term p.base (term_of p.term.now)
+
+-- the problems that are left, the last one last
+abbrev pub problems_in : Problems → List Pending
+problems_in p = p.others.items ++ option_to_list p.last

@@ -7,6 +7,8 @@ ghost use Rattle.ap_perm.specs.BelowProps.{below_prop};
 use crate::closures::Lent;
 use crate::swappings::preimage;
 use ap_defs::terms::{Name, Term};
+use std::alloc::{AllocError, Global};
+use std::mem;
 
 /// The name is to be fresh for the term, whose identifiers are numbered from `base` on, below `end`.
 #[derive(Drop)]
@@ -51,5 +53,50 @@ impl<'a> Pending<'a> {
             end: c.end,
             term: c.term,
         }
+    }
+}
+
+/// Problems that are left, of which the one that came last is taken first. It stands beside the others, so
+/// that no memory is taken as long as one is left at a time.
+#[derive(Drop)]
+pub struct Problems<'a> {
+    last: Option<Pending<'a>>,
+    others: Vec<Pending<'a>>,
+}
+
+impl<'a> Problems<'a> {
+    ghost use Rattle.std.specs.Prelude.{◌≡◌, [], ◌∷◌, ◌++◌, MatchOption, OnOk};
+    ghost use Rattle.ap_perm.specs.Reduction.{problems_in};
+
+    /// One problem. It takes no memory.
+    pub fn of(alloc: Global, first: Pending<'a>) -> Problems<'a>
+        ensures items { problems_in result ≡ first.entry ∷ [] }
+    {
+        Problems {
+            last: Some(first),
+            others: Vec::new(alloc),
+        }
+    }
+
+    /// The last problem, which is left no longer.
+    pub fn take(&mut self) -> Option<Pending<'a>>
+        ensures items { MatchOption result (problems_in self.old ≡ [])
+            (λ p. problems_in self.old ≡ problems_in self.new ++ p ∷ []) }
+    {
+        match mem::replace(&mut self.last, None) {
+            Some(problem) => Some(problem),
+            None => self.others.pop(),
+        }
+    }
+
+    /// One more problem, behind the others.
+    pub fn put(&mut self, problem: Pending<'a>) -> Result<(), AllocError>
+        ensures items { OnOk result (problems_in self.new
+            ≡ problems_in self.old ++ problem.entry ∷ []) }
+    {
+        if let Some(before) = mem::replace(&mut self.last, Some(problem)) {
+            self.others.push(before)?;
+        }
+        Ok(())
     }
 }

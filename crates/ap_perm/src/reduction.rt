@@ -14,7 +14,7 @@ use crate::closures::Closure;
 use crate::error::FreshError;
 use crate::joining::numbered;
 use crate::look::Look;
-use crate::pending::Pending;
+use crate::pending::{Pending, Problems};
 use crate::sets::make_set;
 use crate::swappings::swapped;
 use ap_defs::terms::{Cond, Name, Swap, Term, Var};
@@ -47,9 +47,8 @@ fn collect<L: Look>(first: Pending<'_>, look: &L, conds: &mut Vec<Cond>) -> Resu
         by_rules first.entry.name (carried_out (L.bound look.now) (L.rank look.now)
         (pending_term first.entry)) ≡ None }
 {
-    let mut left = Vec::new(*conds.allocator());
-    left.push(first)?;
-    'collecting: while let Some(p) = left.pop() {
+    let mut left = Problems::of(*conds.allocator(), first);
+    'collecting: while let Some(p) = left.take() {
         match p.term {
             Term::Unit => {}
             Term::Name(b) => {
@@ -58,17 +57,17 @@ fn collect<L: Look>(first: Pending<'_>, look: &L, conds: &mut Vec<Cond>) -> Resu
                 }
             }
             Term::Pair(t, u) => {
-                left.push(p.within(t))?;
-                left.push(p.within(u))?;
+                left.put(p.within(t))?;
+                left.put(p.within(u))?;
             }
-            Term::App(_, argument) => left.push(p.within(argument))?,
+            Term::App(_, argument) => left.put(p.within(argument))?,
             Term::Abs(sort, num, body) => {
                 let b = Name {
                     sort: *sort,
                     num: *num,
                 };
                 if p.name != numbered(p.base, b) {
-                    left.push(p.within(body))?;
+                    left.put(p.within(body))?;
                 }
             }
             Term::Susp(swaps, x) => {
@@ -78,7 +77,7 @@ fn collect<L: Look>(first: Pending<'_>, look: &L, conds: &mut Vec<Cond>) -> Resu
                 };
                 match look.look(var) {
                     None => conds.push(Cond { name, var })?,
-                    Some(c) => left.push(Pending::bound(name, c))?,
+                    Some(c) => left.put(Pending::bound(name, c))?,
                 }
             }
         }
