@@ -1,15 +1,13 @@
-use Rattle.std.proofs.Common.{◌≡◌, ◌≤◌, ◌∷◌, sym, ap, ◌∙◌, arith}
-use Rattle.ap_defs.specs.Goals.{goal_over, both, either, exists, new}
+use Rattle.std.proofs.Common.{◌≡◌, ◌≤◌, sym, ap, ◌∙◌, arith}
+use Rattle.ap_defs.specs.Goals.{goal_over, both, either}
 use Rattle.ap_defs.specs.RawTerms.{raw_of}
 use Rattle.ap_spines.specs.declared.GoalLayer.TheVariants as around
 use Rattle.ap_trees.specs.declared.trees.GoalTree.{GoalTree}
 use Rattle.ap_trees.specs.Goals as goals
-use Rattle.ap_trees.specs.Terms.{OfWord, OfVar}
 use Rattle.ap_trees.specs.Trees.{goal_of_tree}
-use Rattle.ap_scopes.specs.Identifiers.{Numbering}
-use Rattle.ap_scopes.specs.Resolution.{made, resolved_goal, numbered_name, numbered_var}
+use Rattle.ap_scopes.specs.Resolution.{resolved_goal}
 use Rattle.ap_scopes.specs.Views.{declared_of, scope_of, found_of}
-use Rattle.ap_scopes.proofs.LayerLemmas.{then_is, goal_goes_in, goal_end}
+use Rattle.ap_scopes.proofs.LayerLemmas.{then_is, goal_goes_in}
 use Rattle.ap_scopes.proofs.TreeSizes.{goal_size}
 use Rattle.ap_scopes.proofs.goals.+goals.Goals as goal
 

@@ -6,10 +6,9 @@ use Rattle.ap_trees.specs.declared.trees.Args.{Args}
 use Rattle.ap_trees.specs.declared.trees.Sides.{Sides}
 use Rattle.ap_trees.specs.Terms as terms
 use Rattle.ap_trees.specs.Trees.{term_of, terms_of, name_of_binder}
-use Rattle.ap_scopes.specs.Declarations.{constructor_place}
-use Rattle.ap_scopes.specs.Resolution.{made, binder, resolved_term, resolved_arguments, constructor_number, raw_swapped_by, two_ids, in_order}
+use Rattle.ap_scopes.specs.Resolution.{made, binder, resolved_term, resolved_arguments, raw_swapped_by, two_ids, in_order}
 use Rattle.ap_scopes.specs.Views.{declared_of, scope_of, found_of}
-use Rattle.ap_scopes.proofs.LayerLemmas.{then_is, raw_goes_in, raw_end}
+use Rattle.ap_scopes.proofs.LayerLemmas.{then_is, raw_goes_in}
 use Rattle.ap_scopes.proofs.TreeSizes.{term_size, terms_size}
 use Rattle.ap_scopes.proofs.Orders.{in_order_is}
 use Rattle.ap_scopes.proofs.terms.+terms.Goals as goal
