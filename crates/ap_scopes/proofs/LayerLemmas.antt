@@ -1,11 +1,7 @@
 -- What is made inside layers, in the order of the text.
-use Rattle.std.proofs.Common.{◌≡◌, List, [], ◌∷◌, ◌++◌, ap, sym, ◌∙◌, Result, Ok, Err}
-use Rattle.std.specs.Prelude.{IfOk}
-use Rattle.ap_defs.specs.declared.memory.Memory.{Memory}
-use Rattle.ap_defs.specs.declared.terms.Raw.{Raw}
-use Rattle.ap_defs.specs.declared.goals.Goal.{Goal}
-use Rattle.ap_defs.specs.RawTerms.{RawTerm, raw_of}
-use Rattle.ap_defs.specs.Goals.{GoalOver, goal_over}
+use Rattle.std.proofs.Common.{◌≡◌, List, [], ◌∷◌, ◌++◌, ap, sym, ◌∙◌}
+use Rattle.ap_defs.specs.RawTerms.{RawTerm}
+use Rattle.ap_defs.specs.Goals.{GoalOver}
 use Rattle.ap_spines.specs.declared.RawLayer.{RawLayer}
 use Rattle.ap_spines.specs.declared.GoalLayer.{GoalLayer}
 use Rattle.ap_spines.specs.Spines.{raw_in, raw_within, raw_goal_in, raw_goal_within}
@@ -26,19 +22,3 @@ raw_goes_in ls ks l whole part x h e k =
 pub goal_goes_in : (ls ks : List GoalLayer) (l : GoalLayer) (whole part x : GoalOver RawTerm × Found) → ks ≡ ls ++ l ∷ [] → whole ≡ made (raw_goal_in l) part → made (raw_goal_within ls) whole ≡ x → made (raw_goal_within ks) part ≡ x
 goal_goes_in ls ks l whole part x h e k =
     ap (λ ms. made (raw_goal_within ms) part) h ∙ ap (λ g. (g, part.1)) (goal_within_last ls l part.0) ∙ ap (made (raw_goal_within ls)) (sym e) ∙ k
-
--- what is closed inside the layers
-pub raw_closed : (ls : List RawLayer) (t u : RawTerm) (after : Found) (part x : RawTerm × Found) → u ≡ raw_within ls t → (t, after) ≡ part → made (raw_within ls) part ≡ x → (u, after) ≡ x
-raw_closed ls t u after part x h e k = ap (λ v. (v, after)) h ∙ ap (made (raw_within ls)) e ∙ k
-
-pub goal_closed : (ls : List GoalLayer) (g h : GoalOver RawTerm) (after : Found) (part x : GoalOver RawTerm × Found) → h ≡ raw_goal_within ls g → (g, after) ≡ part → made (raw_goal_within ls) part ≡ x → (h, after) ≡ x
-goal_closed ls g h after part x i e k = ap (λ v. (v, after)) i ∙ ap (made (raw_goal_within ls)) e ∙ k
-
-pub raw_end : (r : Result Raw Memory) (ls : List RawLayer) (t : RawTerm) (after : Found) (part x : RawTerm × Found) → IfOk r (λ u. raw_of u ≡ raw_within ls t) → (t, after) ≡ part → made (raw_within ls) part ≡ x → IfOk r (λ u. (raw_of u, after) ≡ x)
-raw_end (Ok u) ls t after part x h e k = raw_closed ls t (raw_of u) after part x h e k
-raw_end (Err r) ls t after part x h e k = tt
-
-pub goal_end : (r : Result (Goal Raw) Memory) (ls : List GoalLayer) (g : GoalOver RawTerm) (after : Found) (part x : GoalOver RawTerm × Found) → IfOk r (λ h. goal_over raw_of h ≡ raw_goal_within ls g) → (g, after) ≡ part → made (raw_goal_within ls) part ≡ x
-    → IfOk r (λ h. (goal_over raw_of h, after) ≡ x)
-goal_end (Ok u) ls g after part x h e k = goal_closed ls g (goal_over raw_of u) after part x h e k
-goal_end (Err r) ls g after part x h e k = tt

@@ -4,9 +4,11 @@ ghost use Rattle.std.specs.Option.{option_map};
 ghost use Rattle.ap_defs.specs.RawTerms.{raw_of};
 ghost use Rattle.ap_defs.specs.Goals.{goal_over};
 ghost use Rattle.ap_defs.specs.Limits.{size_limit};
-ghost use Rattle.ap_trees.specs.Goals.{Atom, Equation, Freshness};
+ghost use Rattle.ap_spines.specs.Spines.{raw_goal_within};
+ghost use Rattle.ap_trees.specs.Goals.{Atom, Equation, Freshness, Some_variable, New_name};
 ghost use Rattle.ap_trees.specs.Trees.{goal_of_tree, term_of, trees_of, name_of_binder};
 ghost use Rattle.ap_scopes.specs.Resolution as spec;
+ghost use Rattle.ap_scopes.specs.Resolution.{made};
 ghost use Rattle.ap_scopes.specs.Declarations.{predicate_place};
 ghost use Rattle.ap_scopes.specs.Views.{IsIndexed, IsSmall, IsNumbered, declared_of, found_of, scope_of};
 
@@ -101,8 +103,8 @@ fn resolved_fresh<'a>(
 
 /// A goal with numbers for its words. `Err` is want of memory.
 ///
-/// It goes on along what is right of `,` and `;`, and calls itself on what is left of them and inside
-/// `exists` and `new`.
+/// It calls itself on what is left of `,` and `;`, and inside `exists` and `new`.
+#[cycle(goals)]
 pub fn resolved_goal<'a>(
     alloc: Global,
     declared: &Declarations<'_>,
@@ -119,20 +121,43 @@ pub fn resolved_goal<'a>(
     ensures numbered { OnOk result (IsNumbered found.new) }
 {
     let mut layers = Vec::new(alloc);
+    let innermost = innermost_goal(alloc, declared, scope, goal, found, &mut layers)?;
+    close_goal(alloc, layers, innermost)
+}
+
+/// What stands last in a goal, with numbers for its words: it goes along what is right of `,` and `;`,
+/// and puts what stands round it behind the layers.
+#[cycle(goals)]
+fn innermost_goal<'a>(
+    alloc: Global,
+    declared: &Declarations<'_>,
+    scope: &Brought<'_, 'a>,
+    goal: &GoalTree<'a>,
+    found: &mut Identifiers<'a>,
+    layers: &mut Vec<GoalLayer>,
+) -> Result<Goal<Raw>, Memory>
+    requires indexed { IsIndexed declared.now }
+    requires small { IsSmall declared.now }
+    requires numbered { IsNumbered found.old }
+    ensures value { IfOk result (λ g. (
+      raw_goal_within layers.new.items (goal_over raw_of g),
+      found_of found.new,
+    ) ≡ made (raw_goal_within layers.old.items) (spec.resolved_goal
+        (declared_of declared.now) (scope_of scope.now) (goal_of_tree goal.now)
+        (found_of found.old))) }
+    ensures numbered { OnOk result (IsNumbered found.new) }
+{
     let mut rest = goal;
     loop {
         match rest {
             GoalTree::Atom(word, args) => {
-                let atom = resolved_atom(alloc, declared, scope, word, args.items(), found)?;
-                return close_goal(alloc, layers, atom);
+                return resolved_atom(alloc, declared, scope, word, args.items(), found);
             }
             GoalTree::Equal(left, right) => {
-                let equal = resolved_equal(alloc, declared, scope, left, right, found)?;
-                return close_goal(alloc, layers, equal);
+                return resolved_equal(alloc, declared, scope, left, right, found);
             }
             GoalTree::Fresh(left, right) => {
-                let fresh = resolved_fresh(alloc, declared, scope, left, right, found)?;
-                return close_goal(alloc, layers, fresh);
+                return resolved_fresh(alloc, declared, scope, left, right, found);
             }
             GoalTree::Both(left, right) => {
                 layers.push(GoalLayer::Both(resolved_goal(alloc, declared, scope, left, found)?))?;
@@ -145,21 +170,61 @@ pub fn resolved_goal<'a>(
                 rest = right;
             }
             GoalTree::Exists(word, inner) => {
-                let num = found.bring(Binder::Var(word))?;
-                let around = Brought::Inner(Binder::Var(word), num, scope);
-                layers.push(GoalLayer::Exists(Var { num }))?;
-                let inner = resolved_goal(alloc, declared, &around, inner, found)?;
-                return close_goal(alloc, layers, inner);
+                return resolved_exists(alloc, declared, scope, word, inner, found);
             }
             GoalTree::New(word, inner) => {
-                let num = found.bring(Binder::Word(word))?;
-                let around = Brought::Inner(Binder::Word(word), num, scope);
-                layers.push(GoalLayer::New(Name { sort: 0, num }))?;
-                let inner = resolved_goal(alloc, declared, &around, inner, found)?;
-                return close_goal(alloc, layers, inner);
+                return resolved_new(alloc, declared, scope, word, inner, found);
             }
         }
     }
+}
+
+/// `exists X. ..` with numbers for its words.
+#[cycle(goals)]
+fn resolved_exists<'a>(
+    alloc: Global,
+    declared: &Declarations<'_>,
+    scope: &Brought<'_, 'a>,
+    word: &'a str,
+    inner: &GoalTree<'a>,
+    found: &mut Identifiers<'a>,
+) -> Result<Goal<Raw>, Memory>
+    requires indexed { IsIndexed declared.now }
+    requires small { IsSmall declared.now }
+    requires numbered { IsNumbered found.old }
+    ensures value { IfOk result (λ g. (goal_over raw_of g, found_of found.new)
+        ≡ spec.resolved_goal (declared_of declared.now) (scope_of scope.now)
+        (Some_variable word.now (goal_of_tree inner.now)) (found_of found.old)) }
+    ensures numbered { OnOk result (IsNumbered found.new) }
+{
+    let num = found.bring(Binder::Var(word))?;
+    let around = Brought::Inner(Binder::Var(word), num, scope);
+    let inner = resolved_goal(alloc, declared, &around, inner, found)?;
+    Ok(Goal::Exists(Var { num }, Box::new(alloc, inner)?))
+}
+
+/// `new a. ..` with numbers for its words.
+#[cycle(goals)]
+fn resolved_new<'a>(
+    alloc: Global,
+    declared: &Declarations<'_>,
+    scope: &Brought<'_, 'a>,
+    word: &'a str,
+    inner: &GoalTree<'a>,
+    found: &mut Identifiers<'a>,
+) -> Result<Goal<Raw>, Memory>
+    requires indexed { IsIndexed declared.now }
+    requires small { IsSmall declared.now }
+    requires numbered { IsNumbered found.old }
+    ensures value { IfOk result (λ g. (goal_over raw_of g, found_of found.new)
+        ≡ spec.resolved_goal (declared_of declared.now) (scope_of scope.now)
+        (New_name word.now (goal_of_tree inner.now)) (found_of found.old)) }
+    ensures numbered { OnOk result (IsNumbered found.new) }
+{
+    let num = found.bring(Binder::Word(word))?;
+    let around = Brought::Inner(Binder::Word(word), num, scope);
+    let inner = resolved_goal(alloc, declared, &around, inner, found)?;
+    Ok(Goal::New(Name { sort: 0, num }, Box::new(alloc, inner)?))
 }
 
 /// The body of a clause; a fact has none.

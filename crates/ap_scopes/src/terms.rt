@@ -2,9 +2,11 @@
 ghost use Rattle.std.specs.Prelude.{◌≡◌, ◌<◌, ◌≤◌, ◌+◌, ◌^◌, IfOk, OnOk, IfSome, map};
 ghost use Rattle.ap_defs.specs.RawTerms.{raw_of};
 ghost use Rattle.ap_defs.specs.Limits.{size_limit};
+ghost use Rattle.ap_spines.specs.Spines.{raw_within};
 ghost use Rattle.ap_trees.specs.Trees.{term_of, terms_of, trees_of, name_of_binder};
 ghost use Rattle.ap_trees.specs.Terms.{OfWord, OfVar, Apply, Abs, Last, More};
 ghost use Rattle.ap_scopes.specs.Resolution as spec;
+ghost use Rattle.ap_scopes.specs.Resolution.{made};
 ghost use Rattle.ap_scopes.specs.Declarations.{constructor_place};
 ghost use Rattle.ap_scopes.specs.Views.{IsIndexed, IsSmall, IsNumbered, declared_of, found_of, scope_of};
 
@@ -176,7 +178,7 @@ fn resolved_application<'a>(
     Ok(Raw::App(number, Box::new(alloc, argument)?))
 }
 
-/// A term that goes on to the right: it goes along what is last in it.
+/// A term that goes on to the right.
 #[cycle(terms)]
 fn resolved_spine<'a>(
     alloc: Global,
@@ -194,25 +196,38 @@ fn resolved_spine<'a>(
     ensures numbered { OnOk result (IsNumbered found.new) }
 {
     let mut layers = Vec::new(alloc);
+    let innermost = innermost_term(alloc, declared, scope, tree, found, &mut layers)?;
+    close_raw(alloc, layers, innermost)
+}
+
+/// What stands last in a term that goes on to the right: it goes along what is last in it, and puts what stands
+/// round that behind the layers.
+#[cycle(terms)]
+fn innermost_term<'a>(
+    alloc: Global,
+    declared: &Declarations<'_>,
+    scope: &Brought<'_, 'a>,
+    tree: &Tree<'a>,
+    found: &mut Identifiers<'a>,
+    layers: &mut Vec<RawLayer>,
+) -> Result<Raw, Memory>
+    requires indexed { IsIndexed declared.now }
+    requires small { IsSmall declared.now }
+    requires numbered { IsNumbered found.old }
+    ensures value { IfOk result (λ t. (raw_within layers.new.items (raw_of t), found_of found.new)
+        ≡ made (raw_within layers.old.items) (spec.resolved_term (declared_of declared.now)
+        (scope_of scope.now) (term_of tree.now) (found_of found.old))) }
+    ensures numbered { OnOk result (IsNumbered found.new) }
+{
     let mut rest = tree;
     loop {
         match rest {
-            Tree::Unit => return close_raw(alloc, layers, Raw::Unit),
-            Tree::Nil => {
-                let nil = Raw::App(0, Box::new(alloc, Raw::Unit)?);
-                return close_raw(alloc, layers, nil);
-            }
-            Tree::Var(word) => {
-                let variable = identifier(scope, Binder::Var(word), found)?;
-                return close_raw(alloc, layers, variable);
-            }
-            Tree::Word(word) => {
-                let alone = word_alone(alloc, declared, scope, word, found)?;
-                return close_raw(alloc, layers, alone);
-            }
+            Tree::Unit => return Ok(Raw::Unit),
+            Tree::Nil => return Ok(Raw::App(0, Box::new(alloc, Raw::Unit)?)),
+            Tree::Var(word) => return identifier(scope, Binder::Var(word), found),
+            Tree::Word(word) => return word_alone(alloc, declared, scope, word, found),
             Tree::Apply(word, args) => {
-                let applied = resolved_application(alloc, declared, scope, word, args, found)?;
-                return close_raw(alloc, layers, applied);
+                return resolved_application(alloc, declared, scope, word, args, found);
             }
             Tree::Pair(left, right) => {
                 layers.push(RawLayer::Left(resolved_term(alloc, declared, scope, left, found)?))?;

@@ -6,10 +6,9 @@ use Rattle.ap_trees.specs.declared.trees.Args.{Args}
 use Rattle.ap_trees.specs.declared.trees.Sides.{Sides}
 use Rattle.ap_trees.specs.Terms as terms
 use Rattle.ap_trees.specs.Trees.{term_of, terms_of, name_of_binder}
-use Rattle.ap_scopes.specs.Declarations.{constructor_place}
-use Rattle.ap_scopes.specs.Resolution.{made, binder, resolved_term, resolved_arguments, constructor_number, raw_swapped_by, two_ids, in_order}
+use Rattle.ap_scopes.specs.Resolution.{made, binder, resolved_term, resolved_arguments, raw_swapped_by, two_ids, in_order}
 use Rattle.ap_scopes.specs.Views.{declared_of, scope_of, found_of}
-use Rattle.ap_scopes.proofs.LayerLemmas.{then_is, raw_goes_in, raw_end}
+use Rattle.ap_scopes.proofs.LayerLemmas.{then_is, raw_goes_in}
 use Rattle.ap_scopes.proofs.TreeSizes.{term_size, terms_size}
 use Rattle.ap_scopes.proofs.Orders.{in_order_is}
 use Rattle.ap_scopes.proofs.terms.+terms.Goals as goal
@@ -31,8 +30,8 @@ resolved_tuple-loop-rest-preserved t c =
       smaller = let k : terms_size (terms.More (term_of c.in-More.first) more) ≤ terms_size (terms_of c.args.args.now) = rw is at c.loop-rest.invariant.smaller in omega arith;
     }
 
-pub resolved_spine-loop-rest-preserved-in-Pair : goal.resolved_spine-loop-rest-preserved-in-Pair
-resolved_spine-loop-rest-preserved-in-Pair t c =
+pub innermost_term-loop-rest-preserved-in-Pair : goal.innermost_term-loop-rest-preserved-in-Pair
+innermost_term-loop-rest-preserved-in-Pair t c =
     let d = declared_of c.args.declared.now in
     let s = scope_of c.args.scope.now in
     let first = c.in_ok-resolved_term-in-Pair.field-0 in
@@ -49,8 +48,8 @@ resolved_spine-loop-rest-preserved-in-Pair t c =
       smaller = let k : term_size (terms.Pair left right) ≤ term_size (term_of c.args.tree.now) = rw is at c.loop-rest.invariant.smaller in omega arith;
     }
 
-pub resolved_spine-loop-rest-preserved-in-Cell : goal.resolved_spine-loop-rest-preserved-in-Cell
-resolved_spine-loop-rest-preserved-in-Cell t c =
+pub innermost_term-loop-rest-preserved-in-Cell : goal.innermost_term-loop-rest-preserved-in-Cell
+innermost_term-loop-rest-preserved-in-Cell t c =
     let d = declared_of c.args.declared.now in
     let s = scope_of c.args.scope.now in
     let first = c.in_ok-resolved_term-in-Cell.field-0 in
@@ -67,8 +66,8 @@ resolved_spine-loop-rest-preserved-in-Cell t c =
       smaller = let k : term_size (terms.Cell head tail) ≤ term_size (term_of c.args.tree.now) = rw is at c.loop-rest.invariant.smaller in omega arith;
     }
 
-pub resolved_spine-loop-rest-preserved-in-Abs : goal.resolved_spine-loop-rest-preserved-in-Abs
-resolved_spine-loop-rest-preserved-in-Abs t c =
+pub innermost_term-loop-rest-preserved-in-Abs : goal.innermost_term-loop-rest-preserved-in-Abs
+innermost_term-loop-rest-preserved-in-Abs t c =
     let d = declared_of c.args.declared.now in
     let s = scope_of c.args.scope.now in
     let id = c.in_ok-binder-in-Abs.field-0 in
@@ -84,8 +83,8 @@ resolved_spine-loop-rest-preserved-in-Abs t c =
       smaller = let k : term_size (terms.Abs spelling body) ≤ term_size (term_of c.args.tree.now) = rw is at c.loop-rest.invariant.smaller in omega arith;
     }
 
-pub resolved_spine-loop-rest-preserved : goal.resolved_spine-loop-rest-preserved
-resolved_spine-loop-rest-preserved t c =
+pub innermost_term-loop-rest-preserved : goal.innermost_term-loop-rest-preserved
+innermost_term-loop-rest-preserved t c =
     let d = declared_of c.args.declared.now in
     let s = scope_of c.args.scope.now in
     let i = c.in_ok-left-in-Swapped.left in

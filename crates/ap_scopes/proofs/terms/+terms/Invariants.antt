@@ -28,15 +28,18 @@ decreases-resolved_two l = 3 * (term_size (term_of l.first.now) + term_size (ter
 abbrev pub decreases-resolved_tuple : goal.decreases-resolved_tuple
 decreases-resolved_tuple l = 3 * terms_size (terms_of l.args.now)
 
-abbrev pub invariant-resolved_spine-loop-rest : goal.invariant-resolved_spine-loop-rest
-invariant-resolved_spine-loop-rest l = record {
-  all : made (raw_within l.layers.items) (resolved_term (declared_of l.declared) (scope_of l.scope) (term_of l.rest) (found_of l.found)) ≡ resolved_term (declared_of l.fn.declared) (scope_of l.fn.scope) (term_of l.fn.tree) (found_of l.fn.found);
+abbrev pub decreases-innermost_term : goal.decreases-innermost_term
+decreases-innermost_term l = 3 * term_size (term_of l.tree.now)
+
+abbrev pub invariant-innermost_term-loop-rest : goal.invariant-innermost_term-loop-rest
+invariant-innermost_term-loop-rest l = record {
+  all : made (raw_within l.layers.items) (resolved_term (declared_of l.declared) (scope_of l.scope) (term_of l.rest) (found_of l.found)) ≡ made (raw_within l.fn.layers.items) (resolved_term (declared_of l.fn.declared) (scope_of l.fn.scope) (term_of l.fn.tree) (found_of l.fn.found));
   numbered : IsNumbered l.found;
   smaller : term_size (term_of l.rest) ≤ term_size (term_of l.fn.tree);
 }
 
-abbrev pub decreases-resolved_spine-loop-rest : goal.decreases-resolved_spine-loop-rest
-decreases-resolved_spine-loop-rest l = term_size (term_of l.rest)
+abbrev pub decreases-innermost_term-loop-rest : goal.decreases-innermost_term-loop-rest
+decreases-innermost_term-loop-rest l = term_size (term_of l.rest)
 
 abbrev pub invariant-resolved_tuple-loop-rest : goal.invariant-resolved_tuple-loop-rest
 invariant-resolved_tuple-loop-rest l = record {
