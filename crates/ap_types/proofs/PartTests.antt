@@ -45,7 +45,7 @@ module _ {A B : Type 0} (view : B → A) (parts : A → List A) (p own : A → B
       ap (λ b. all_pass p (lent view ws) && b) here ∙ and_false (all_pass p (lent view ws))
 
   -- its parts wait
-  pub waits_on : (next : List (Bor B)) → lent view next ≡ lent view ws ++ parts t → own t ≡ true → all_pass p (lent view next) ≡ all_left view p ws t
+  waits_on : (next : List (Bor B)) → lent view next ≡ lent view ws ++ parts t → own t ≡ true → all_pass p (lent view next) ≡ all_left view p ws t
   waits_on next f o =
       let here : p t ≡ all_pass p (parts t) = test t ∙ ap (λ b. b && all_pass p (parts t)) o in
       ap (all_pass p) f ∙ pass_append p (lent view ws) (parts t) ∙ ap (λ b. all_pass p (lent view ws) && b) (sym here)

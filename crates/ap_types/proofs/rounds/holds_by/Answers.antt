@@ -2,7 +2,7 @@ use Rattle.std.proofs.Common.{◌∙◌, sym}
 use Rattle.ap_defs.specs.Types.{type_of}
 use Rattle.ap_types.specs.Barred.{own_barred, type_parts}
 use Rattle.ap_types.specs.Rounds.{marked}
-use Rattle.ap_types.proofs.BarredParts.{bars, barred_test, holds_here, none_holds}
+use Rattle.ap_types.proofs.BarredParts.{bars, barred_test, holds_here}
 use Rattle.ap_types.proofs.PartTests.{goes_on}
 use Rattle.ap_types.proofs.rounds.holds_by.Goals as goal
 

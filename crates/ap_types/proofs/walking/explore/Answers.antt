@@ -1,4 +1,4 @@
-use Rattle.std.proofs.Common.{◌≡◌, ◌<◌, true, false, List, length, subst, sym, arith}
+use Rattle.std.proofs.Common.{◌≡◌, true, false, List, subst, sym, arith}
 use Rattle.ap_types.specs.declared.walking.Mark.{Mark}
 use Rattle.ap_types.specs.Triangular.{shapes_of_nodes}
 use Rattle.ap_types.specs.Walking.{is_left, walk_mark_at}

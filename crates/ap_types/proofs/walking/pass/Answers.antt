@@ -1,4 +1,4 @@
-use Rattle.std.proofs.Common.{◌≡◌, length, ◌++◌, ◌∷◌, [], ◌∙◌, true, false, List, ℕ, subst, sym, ap, arith}
+use Rattle.std.proofs.Common.{◌≡◌, ◌++◌, ◌∷◌, [], ◌∙◌, true, false, List, ℕ, subst, sym, ap, arith}
 use Rattle.ap_types.specs.declared.walking.Mark.{Mark}
 use Rattle.ap_types.specs.Triangular.{shapes_of_nodes}
 use Rattle.ap_types.specs.Walking.{is_left, is_unvisited, walk_mark_at}
