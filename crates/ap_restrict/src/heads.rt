@@ -163,10 +163,14 @@ fn is_fresh_for_head(
         a) }
 {
     match table_of(setting.sig, setting.tables, a.sort) {
-        Some(table) => are_fresh(alloc, facts, table, head.locals, a, head.args),
+        Some(table) => {
+            let fresh = are_fresh(alloc, facts, table, head.locals, a, head.args)?;
+            Ok(fresh)
+        }
         None => {
             let table = types_holding(alloc, setting.sig, a.sort)?;
-            are_fresh(alloc, facts, &table, head.locals, a, head.args)
+            let fresh = are_fresh(alloc, facts, &table, head.locals, a, head.args)?;
+            Ok(fresh)
         }
     }
 }
