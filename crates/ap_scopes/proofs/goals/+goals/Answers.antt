@@ -46,4 +46,3 @@ innermost_goal-loop-rest-preserved t c =
       numbered = c.in_ok-resolved_goal-in-Either.ensures.numbered;
       smaller = let k : goal_size (goals.Either left right) ≤ goal_size (goal_of_tree c.args.goal.now) = rw is at c.loop-rest.invariant.smaller in omega arith;
     }
-
