@@ -63,6 +63,7 @@ pub fn value_of<'a>(alloc: Global, c: Closure<'a>, ground: bool) -> Result<Value
 pub enum Found<'a> {
     Nothing,
     Plain(Bare<'a>),
+    Ground(Bare<'a>),
     Moved(Bare<'a>),
 }
 
@@ -85,7 +86,12 @@ pub fn found_value<'a>(b: &Value<'a>, end: u64) -> Found<'a>
 {
     match b {
         Value::Unbound => Found::Nothing,
-        Value::Plain(base, term) | Value::Ground(base, term) => Found::Plain(Bare {
+        Value::Plain(base, term) => Found::Plain(Bare {
+            base: *base as u64,
+            end,
+            term,
+        }),
+        Value::Ground(base, term) => Found::Ground(Bare {
             base: *base as u64,
             end,
             term,

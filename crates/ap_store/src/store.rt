@@ -223,6 +223,7 @@ impl<'a> Store<'a> {
         match self.found(x) {
             Found::Nothing => None,
             Found::Plain(b) => Some(b),
+            Found::Ground(b) => Some(b),
             Found::Moved(b) => Some(b),
         }
     }

@@ -79,6 +79,7 @@ fn bind_unless_occurs<'a>(
     work: &mut Work<'a>,
     x: Var,
     p: Plain<'a>,
+    ground: bool,
 ) -> Result<Turn, Memory>
     requires made { x.num < (present store.old).next }
     requires unbound { IsUnbound (bindings_of store.old) x }
@@ -95,6 +96,9 @@ fn bind_unless_occurs<'a>(
     ensures past { IsPrefixOf (versions store.old) (versions store.new) }
     ensures kinds { kinds store.new ≡ kinds store.old }
 {
+    if ground {
+        return bind_part(alloc, store, work, x, p, true);
+    }
     let c = p.closure(alloc);
     match store.occurs(alloc, x, &c)? {
         Occurrence::Occurs => Ok(Turn::Clash),
@@ -233,9 +237,13 @@ fn by_heads<'a>(
     ensures kinds { kinds store.new ≡ kinds store.old }
 {
     match (left, right) {
-        (Head::Form, Head::Form) => Ok(forms(ahead)),
-        (Head::Free(x), Head::Form) => bind_unless_occurs(alloc, store, work, x, ahead.next.right),
-        (Head::Form, Head::Free(y)) => bind_unless_occurs(alloc, store, work, y, ahead.next.left),
+        (Head::Form(_), Head::Form(_)) => Ok(forms(ahead)),
+        (Head::Free(x), Head::Form(ground)) => {
+            bind_unless_occurs(alloc, store, work, x, ahead.next.right, ground)
+        }
+        (Head::Form(ground), Head::Free(y)) => {
+            bind_unless_occurs(alloc, store, work, y, ahead.next.left, ground)
+        }
         (Head::Free(x), Head::Free(y)) => variables(alloc, store, work, x, y, ahead.next),
         _ => Ok(Turn::Other),
     }
