@@ -17,6 +17,7 @@ use ap_defs::memory::Memory;
 use ap_defs::terms::{Name, Swap, Term, Var};
 use ap_perm::closures::{Closure, Opened};
 use ap_perm::swappings::differing;
+use ap_store::occurrences::Occurrence;
 use ap_store::store::Store;
 use std::alloc::Global;
 
@@ -29,7 +30,7 @@ pub enum Move<'a> {
     Two(ClosurePair<'a>, ClosurePair<'a>),
     Swapped(ClosurePair<'a>, Name, Closure<'a>),
     Differ(Vec<Name>, Var),
-    Bind(Var, Closure<'a>),
+    Bind(Var, Closure<'a>, bool),
     Clash,
 }
 
@@ -86,19 +87,21 @@ fn bind_to<'a>(
     p: &[Swap],
     x: Var,
     c: Closure<'a>,
+    ground: bool,
 ) -> Result<Move<'a>, Memory>
     requires made { x.num < (present store.now).next }
     requires unbound { IsUnbound (bindings_of store.now) x }
     requires swaps { AreSwapsBelow (present store.now).next p.now }
     requires below { IsBelow (present store.now).next (closure_term c) }
     requires absent { occurs x (meaning_in store.now c) ≡ false }
+    requires ground { ground ≡ true → NoVars (meaning_in store.now c) }
     ensures rule { IfOk result (λ m. move_under (bindings_of store.now) m
         ≡ bind x (act_term (inverse p.now) (meaning_in store.now c.entry))) }
     ensures fit { IfOk result (λ m. IsMoveFit (bindings_of store.now) (present store.now).next
         m) }
 {
     let moved = moved_back(alloc, p, c)?;
-    Ok(Move::Bind(x, moved))
+    Ok(Move::Bind(x, moved, ground))
 }
 
 /// A variable is bound to a closure, unless it occurs there.
@@ -119,10 +122,11 @@ fn bind_unless_occurs<'a>(
     ensures fit { IfOk result (λ m. IsMoveFit (bindings_of store.now) (present store.now).next
         m) }
 {
-    if store.occurs(alloc, x, &c)? {
-        return Ok(Move::Clash);
+    match store.occurs(alloc, x, &c)? {
+        Occurrence::Occurs => Ok(Move::Clash),
+        Occurrence::Apart => bind_to(alloc, store, p, x, c, false),
+        Occurrence::Ground => bind_to(alloc, store, p, x, c, true),
     }
-    bind_to(alloc, store, p, x, c)
 }
 
 /// Of one variable, the names on which the permutations differ are to be fresh for it.
@@ -170,7 +174,7 @@ fn bind_newer<'a>(
         m) }
 {
     let q = swaps_of(alloc, store, y, newer)?;
-    bind_to(alloc, store, &q, y, older)
+    bind_to(alloc, store, &q, y, older, false)
 }
 
 /// The rule for two closures that stand for suspensions.

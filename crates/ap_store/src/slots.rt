@@ -15,11 +15,13 @@ use ap_perm::closures::{Closure, Lent};
 use std::alloc::Global;
 
 /// What a number is bound to, if it is bound: mostly a term on which no swappings wait, whose
-/// identifiers are numbered from a small number on, and else any closure.
+/// identifiers are numbered from a small number on, and else any closure. A ground one was seen to stand for a
+/// term without variables.
 #[derive(Drop)]
 pub enum Value<'a> {
     Unbound,
     Plain(u32, &'a Term),
+    Ground(u32, &'a Term),
     Moved(Box<Closure<'a>>),
 }
 
@@ -30,13 +32,26 @@ pub struct Slot<'a> {
     pub value: Value<'a>,
 }
 
-/// A binding to a closure.
-pub fn value_of<'a>(alloc: Global, c: Closure<'a>) -> Result<Value<'a>, Memory>
+/// A binding to a term on which no swappings wait.
+pub fn plain_value<'a>(base: u32, term: &'a Term, ground: bool) -> Value<'a>
+    ensures term { value_term result ≡ Some (rename_term base (term_of term.now)) }
+    ensures ground { is_ground result ≡ ground }
+{
+    if ground {
+        Value::Ground(base, term)
+    } else {
+        Value::Plain(base, term)
+    }
+}
+
+/// A binding to a closure, which may stand for a term without variables.
+pub fn value_of<'a>(alloc: Global, c: Closure<'a>, ground: bool) -> Result<Value<'a>, Memory>
     ensures term { IfOk result (λ b. value_term b ≡ Some (closure_term c.entry)) }
     ensures below { IfOk result (λ b. IsKeptBelow c.entry.end b) }
+    ensures ground { IfOk result (λ b. is_ground b ≡ true → ground ≡ true) }
 {
     if c.swaps.is_empty() && c.base <= u32::MAX as u64 {
-        return Ok(Value::Plain(c.base as u32, c.term));
+        return Ok(plain_value(c.base as u32, c.term, ground));
     }
     let moved = Box::new(alloc, c)?;
     Ok(Value::Moved(moved))
@@ -48,6 +63,7 @@ pub fn value_of<'a>(alloc: Global, c: Closure<'a>) -> Result<Value<'a>, Memory>
 pub enum Found<'a> {
     Nothing,
     Plain(Bare<'a>),
+    Ground(Bare<'a>),
     Moved(Bare<'a>),
 }
 
@@ -75,6 +91,11 @@ pub fn found_value<'a>(b: &Value<'a>, end: u64) -> Found<'a>
             end,
             term,
         }),
+        Value::Ground(base, term) => Found::Ground(Bare {
+            base: *base as u64,
+            end,
+            term,
+        }),
         Value::Moved(closure) => Found::Moved(bare_of(closure)),
     }
 }
@@ -88,12 +109,39 @@ pub fn lent_value<'s, 'a>(b: &'s Value<'a>, end: u64) -> Option<Lent<'s, 'a>>
 {
     match b {
         Value::Unbound => None,
-        Value::Plain(base, term) => Some(Lent {
+        Value::Plain(base, term) | Value::Ground(base, term) => Some(Lent {
             swaps: &[],
             base: *base as u64,
             end,
             term,
         }),
         Value::Moved(closure) => Some(closure.lent()),
+    }
+}
+
+/// What the occurs check sees of a variable: it is unbound, it stands for a term without variables, or the term of
+/// what it is bound to.
+#[derive(Clone, Copy)]
+pub enum Seen<'a> {
+    Unbound,
+    Ground,
+    Below(Bare<'a>),
+}
+
+/// What the occurs check sees of a binding; where no swappings wait on it, its numbers are below `end`. It takes no
+/// memory.
+pub fn seen_value<'a>(b: &Value<'a>, end: u64) -> Seen<'a>
+    requires { IsKeptBelow end b.now }
+    ensures { IsWhatIsSeen b.now result }
+{
+    match b {
+        Value::Unbound => Seen::Unbound,
+        Value::Ground(_, _) => Seen::Ground,
+        Value::Plain(base, term) => Seen::Below(Bare {
+            base: *base as u64,
+            end,
+            term,
+        }),
+        Value::Moved(closure) => Seen::Below(bare_of(closure)),
     }
 }

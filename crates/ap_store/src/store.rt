@@ -8,8 +8,8 @@ ghost use Rattle.ap_store.specs.Trails.{no_rank, nothing_bound, rank_after, raw_
 use crate::bare::Bare;
 use crate::changes::{Entry, Noted};
 use crate::held::{all_of, held_of, hold, let_go, put_back, take_out};
-use crate::slots::{Found, Slot, Value, value_of};
-use crate::tables::{add_slots, bound_at, found_at, put_value};
+use crate::slots::{Found, Seen, Slot, Value, plain_value, value_of};
+use crate::tables::{add_slots, bound_at, found_at, put_value, seen_at};
 use ap_defs::goals::{Kind, Local};
 use ap_defs::memory::Memory;
 use ap_defs::terms::{Cond, Term, Var};
@@ -97,11 +97,18 @@ impl<'a> Store<'a> {
 
     /// Binds an unbound variable to a closure in which it does not occur, and answers the conditions
     /// on the variable, which are taken out. After want of memory the store is as before.
-    pub fn bind(&mut self, alloc: Global, x: Var, c: Closure<'a>) -> Result<Vec<Cond>, Memory>
+    pub fn bind(
+        &mut self,
+        alloc: Global,
+        x: Var,
+        c: Closure<'a>,
+        ground: bool,
+    ) -> Result<Vec<Cond>, Memory>
         requires made { x.num < (present self.old).next }
         requires unbound { IsUnbound (bindings_of self.old) x }
         requires term { IsBelow (present self.old).next (closure_term c) }
         requires absent { occurs x (meaning_in self.old c) ≡ false }
+        requires ground { ground ≡ true → NoVars (meaning_in self.old c) }
         ensures taken { IfOk result (λ conds. conds.items
             ≡ filter (is_on x) (present self.old).conditions) }
         ensures present { OnOk result (present self.new
@@ -112,7 +119,7 @@ impl<'a> Store<'a> {
         ensures unchanged { OnErr result (IsUnchanged self.old self.new) }
     {
         let end = c.end;
-        let value = value_of(alloc, c)?;
+        let value = value_of(alloc, c, ground)?;
         let taken = self.take_conditions(alloc, x)?;
         self.note_binding(x, value, end);
         Ok(taken)
@@ -121,7 +128,14 @@ impl<'a> Store<'a> {
     /// Binds an unbound variable, on which there are no conditions, to a term on which no swappings wait,
     /// whose identifiers are numbered from `base` on, below `end`, and in which it does not occur. After
     /// want of memory the store is as before; a `base` of `2 ^ 32` and more is such a want.
-    pub fn bind_free(&mut self, x: Var, base: u64, end: u64, term: &'a Term) -> Result<(), Memory>
+    pub fn bind_free(
+        &mut self,
+        x: Var,
+        base: u64,
+        end: u64,
+        term: &'a Term,
+        ground: bool,
+    ) -> Result<(), Memory>
         requires made { x.num < (present self.old).next }
         requires unbound { IsUnbound (bindings_of self.old) x }
         requires apart { has_on x (present self.old).conditions ≡ false }
@@ -129,6 +143,8 @@ impl<'a> Store<'a> {
         requires term { IsBelow (present self.old).next (rename_term base (term_of term.now)) }
         requires absent { occurs x (under (bindings_of self.old)
             (rename_term base (term_of term.now))) ≡ false }
+        requires ground { ground ≡ true →
+            NoVars (under (bindings_of self.old) (rename_term base (term_of term.now))) }
         ensures present { OnOk result (present self.new
             ≡ with_binding x (under (bindings_of self.old) (rename_term base (term_of term.now)))
             (present self.old)) }
@@ -140,7 +156,7 @@ impl<'a> Store<'a> {
             return Err(Memory);
         }
         self.make_room()?;
-        self.note_binding(x, Value::Plain(base as u32, term), end);
+        self.note_binding(x, plain_value(base as u32, term, ground), end);
         Ok(())
     }
 
@@ -207,8 +223,16 @@ impl<'a> Store<'a> {
         match self.found(x) {
             Found::Nothing => None,
             Found::Plain(b) => Some(b),
+            Found::Ground(b) => Some(b),
             Found::Moved(b) => Some(b),
         }
+    }
+
+    /// What the occurs check sees of a variable. It takes no memory.
+    pub(crate) fn seen(&self, x: Var) -> Seen<'a>
+        ensures { IsSeen self.now x result }
+    {
+        seen_at(&self.table, x.num, self.reach)
     }
 
     /// Whether there are conditions on a variable. It takes no memory.

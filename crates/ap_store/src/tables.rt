@@ -7,7 +7,7 @@ ghost use Rattle.ap_perm.specs.Closures.{lent_term};
 ghost use Rattle.ap_store.specs.Founds.{IsWhatIsFound};
 ghost use Rattle.ap_store.specs.Slots.{AreKeptBelow, IsKeptBelow, value_term, bound_in, slot_kind};
 
-use crate::slots::{Found, Slot, Value, found_value, lent_value};
+use crate::slots::{Found, Seen, Slot, Value, found_value, lent_value, seen_value};
 use ap_defs::goals::Local;
 use ap_perm::closures::Lent;
 
@@ -63,5 +63,17 @@ pub fn found_at<'a>(table: &[Slot<'a>], num: u64, end: u64) -> Found<'a>
         found_value(&table[num as usize].value, end)
     } else {
         Found::Nothing
+    }
+}
+
+/// What the occurs check sees of a number, where what it is bound to is below `end`. It takes no memory.
+pub fn seen_at<'a>(table: &[Slot<'a>], num: u64, end: u64) -> Seen<'a>
+    requires { AreKeptBelow end table.now }
+    ensures { IsWhatIsSeen (value_in table.now num) result }
+{
+    if num < table.len() as u64 {
+        seen_value(&table[num as usize].value, end)
+    } else {
+        Seen::Unbound
     }
 }

@@ -15,7 +15,7 @@ use ap_store::store::Store;
 /// No suspension, an unbound variable on which no swappings wait, or another suspension.
 #[derive(Clone, Copy)]
 pub enum Head {
-    Form,
+    Form(bool),
     Free(Var),
     Other,
 }
@@ -26,6 +26,7 @@ pub enum Head {
 pub enum Look<'a> {
     Ends(Head),
     Further(Plain<'a>),
+    Ground(Plain<'a>),
 }
 
 /// A part, and what stands at its head.
@@ -40,11 +41,11 @@ fn look_at<'a>(store: &Store<'a>, p: Plain<'a>) -> Look<'a>
     ensures { IsLook (present store.now) (rank store.now) (plain_term p.entry) result }
 {
     match p.term {
-        Term::Unit => Look::Ends(Head::Form),
-        Term::Name(_) => Look::Ends(Head::Form),
-        Term::Pair(_, _) => Look::Ends(Head::Form),
-        Term::App(_, _) => Look::Ends(Head::Form),
-        Term::Abs(_, _) => Look::Ends(Head::Form),
+        Term::Unit => Look::Ends(Head::Form(false)),
+        Term::Name(_) => Look::Ends(Head::Form(false)),
+        Term::Pair(_, _) => Look::Ends(Head::Form(false)),
+        Term::App(_, _) => Look::Ends(Head::Form(false)),
+        Term::Abs(_, _) => Look::Ends(Head::Form(false)),
         Term::Susp(q, x) => {
             if !q.items().is_empty() {
                 return Look::Ends(Head::Other);
@@ -56,6 +57,11 @@ fn look_at<'a>(store: &Store<'a>, p: Plain<'a>) -> Look<'a>
                 Found::Nothing => Look::Ends(Head::Free(x)),
                 Found::Moved(_) => Look::Ends(Head::Other),
                 Found::Plain(b) => Look::Further(Plain {
+                    base: b.base,
+                    end: b.end,
+                    term: b.term,
+                }),
+                Found::Ground(b) => Look::Ground(Plain {
                     base: b.base,
                     end: b.end,
                     term: b.term,
@@ -74,10 +80,21 @@ pub fn headed<'a>(store: &Store<'a>, mut p: Plain<'a>) -> PartWithHead<'a>
         IsBelow (present store.now).next (plain_term result.part) }
     ensures head { IsHead (bindings_of store.now) (plain_term result.part) result.head }
 {
+    let mut ground = false;
     'following: loop {
         match look_at(store, p) {
+            Look::Ends(Head::Form(_)) => {
+                return PartWithHead {
+                    part: p,
+                    head: Head::Form(ground),
+                };
+            }
             Look::Ends(head) => return PartWithHead { part: p, head },
             Look::Further(further) => p = further,
+            Look::Ground(further) => {
+                p = further;
+                ground = true;
+            }
         }
     }
 }

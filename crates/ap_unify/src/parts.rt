@@ -23,6 +23,7 @@ use ap_equations::work::bind_plain;
 use ap_perm::joining::numbered;
 use ap_rules::pairs::Work;
 use ap_store::heads::head_key;
+use ap_store::occurrences::Occurrence;
 use ap_store::store::Store;
 use std::alloc::Global;
 
@@ -51,6 +52,7 @@ fn bind_part<'a>(
     work: &mut Work<'a>,
     x: Var,
     p: Plain<'a>,
+    ground: bool,
 ) -> Result<Turn, Memory>
     requires made { x.num < (present store.old).next }
     requires unbound { IsUnbound (bindings_of store.old) x }
@@ -66,7 +68,7 @@ fn bind_part<'a>(
     ensures past { IsPrefixOf (versions store.old) (versions store.new) }
     ensures kinds { kinds store.new ≡ kinds store.old }
 {
-    bind_plain(alloc, store, work, x, p)?;
+    bind_plain(alloc, store, work, x, p, ground)?;
     Ok(Turn::Done)
 }
 
@@ -77,6 +79,7 @@ fn bind_unless_occurs<'a>(
     work: &mut Work<'a>,
     x: Var,
     p: Plain<'a>,
+    ground: bool,
 ) -> Result<Turn, Memory>
     requires made { x.num < (present store.old).next }
     requires unbound { IsUnbound (bindings_of store.old) x }
@@ -93,11 +96,15 @@ fn bind_unless_occurs<'a>(
     ensures past { IsPrefixOf (versions store.old) (versions store.new) }
     ensures kinds { kinds store.new ≡ kinds store.old }
 {
-    let c = p.closure(alloc);
-    if store.occurs(alloc, x, &c)? {
-        return Ok(Turn::Clash);
+    if ground {
+        return bind_part(alloc, store, work, x, p, true);
     }
-    bind_part(alloc, store, work, x, p)
+    let c = p.closure(alloc);
+    match store.occurs(alloc, x, &c)? {
+        Occurrence::Occurs => Ok(Turn::Clash),
+        Occurrence::Apart => bind_part(alloc, store, work, x, p, false),
+        Occurrence::Ground => bind_part(alloc, store, work, x, p, true),
+    }
 }
 
 /// Of two different variables the one with the greater number is bound.
@@ -127,9 +134,9 @@ fn variables<'a>(
     if x.num == y.num {
         Ok(Turn::Done)
     } else if x.num < y.num {
-        bind_part(alloc, store, work, y, pair.left)
+        bind_part(alloc, store, work, y, pair.left, false)
     } else {
-        bind_part(alloc, store, work, x, pair.right)
+        bind_part(alloc, store, work, x, pair.right, false)
     }
 }
 
@@ -230,9 +237,13 @@ fn by_heads<'a>(
     ensures kinds { kinds store.new ≡ kinds store.old }
 {
     match (left, right) {
-        (Head::Form, Head::Form) => Ok(forms(ahead)),
-        (Head::Free(x), Head::Form) => bind_unless_occurs(alloc, store, work, x, ahead.next.right),
-        (Head::Form, Head::Free(y)) => bind_unless_occurs(alloc, store, work, y, ahead.next.left),
+        (Head::Form(_), Head::Form(_)) => Ok(forms(ahead)),
+        (Head::Free(x), Head::Form(ground)) => {
+            bind_unless_occurs(alloc, store, work, x, ahead.next.right, ground)
+        }
+        (Head::Form(ground), Head::Free(y)) => {
+            bind_unless_occurs(alloc, store, work, y, ahead.next.left, ground)
+        }
         (Head::Free(x), Head::Free(y)) => variables(alloc, store, work, x, y, ahead.next),
         _ => Ok(Turn::Other),
     }
