@@ -1,10 +1,11 @@
 //! What the rules make of the work that is left.
 
-ghost use Rattle.std.specs.Prelude.{◌≡◌, ◌<◌, ◌∷◌, [], ◌++◌, false, IfOk, OnOk, map};
+ghost use Rattle.std.specs.Prelude.{◌≡◌, ◌<◌, ◌∷◌, [], ◌++◌, false, true, IfOk, OnOk, map};
 ghost use Rattle.ap_defs.specs.Renaming.{IsBelow};
 ghost use Rattle.ap_defs.specs.Substitution.{occurs, under, ◌#◌};
 ghost use Rattle.ap_defs.specs.Unification.{apply_rule, bind, fresh_for, next, rule, step};
 ghost use Rattle.ap_perm.specs.Closures.{closure_term};
+ghost use Rattle.ap_store.specs.Marks.{HasNoVars};
 ghost use Rattle.ap_store.specs.Triples.{IsPrefixOf, with_binding};
 ghost use Rattle.ap_store.specs.Views.{bindings_of, kinds, meaning_in, present, versions};
 ghost use Rattle.ap_theory.specs.Variables.{IsUnbound};
@@ -93,7 +94,7 @@ pub fn bind_var<'a>(
     requires unbound { IsUnbound (bindings_of store.old) x }
     requires below { IsBelow (present store.old).next (closure_term c) }
     requires absent { occurs x (meaning_in store.old c) ≡ false }
-    requires ground { ground ≡ true → NoVars (meaning_in store.old c) }
+    requires ground { ground ≡ true → HasNoVars (meaning_in store.old c) }
     ensures stage { OnOk result (next (work_stage (bindings_of store.new) work.new)
         ≡ apply_rule (bind x (meaning_in store.old c.entry)) (map
         (equation_under (bindings_of store.old)) (equations_left work.old)) (map (problem_under
@@ -127,7 +128,8 @@ pub fn bind_plain<'a>(
     requires unbound { IsUnbound (bindings_of store.old) x }
     requires below { IsBelow (present store.old).next (plain_term p) }
     requires absent { occurs x (under (bindings_of store.old) (plain_term p)) ≡ false }
-    requires ground { ground ≡ true → NoVars (under (bindings_of store.old) (plain_term p)) }
+    requires ground { ground ≡ true →
+        HasNoVars (under (bindings_of store.old) (plain_term p)) }
     ensures bindings { OnOk result (bindings_of store.new ≡ (with_binding x
         (under (bindings_of store.old) (plain_term p.entry)) (present store.old)).bindings) }
     ensures equations { work.new.equations.items ≡ work.old.equations.items }

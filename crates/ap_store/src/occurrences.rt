@@ -1,12 +1,13 @@
 //! Occurrences of variables.
 
-ghost use Rattle.std.specs.Prelude.{◌≡◌, IfOk};
-ghost use Rattle.ap_defs.specs.Substitution.{occurs};
-ghost use Rattle.ap_store.specs.Founds.{occurs_in};
-ghost use Rattle.ap_store.specs.Views.{meaning_in};
+ghost use Rattle.std.specs.Prelude.{◌≡◌, true, if◌then◌else◌, IfOk};
+ghost use Rattle.ap_defs.specs.Substitution.{occurs, under};
+ghost use Rattle.ap_store.specs.Founds.{IsSeen, bare_term, does_occur, occurs_in};
+ghost use Rattle.ap_store.specs.Marks.{HasNoVars};
+ghost use Rattle.ap_store.specs.Views.{bindings_of, meaning_in};
 
 use crate::bare::Bare;
-use crate::slots::Seen;
+use crate::slots::Found;
 use crate::store::Store;
 use ap_defs::memory::Memory;
 use ap_defs::terms::{Term, Var};
@@ -19,6 +20,54 @@ pub enum Occurrence {
     Occurs,
     Apart,
     Ground,
+}
+
+impl Occurrence {
+    /// Whether the variable occurs.
+    pub fn occurs(self) -> bool
+        ensures { result ≡ does_occur self.entry }
+    {
+        matches!(self, Occurrence::Occurs)
+    }
+
+    /// Whether no variable stands there.
+    pub fn is_ground(self) -> bool
+        ensures { result ≡ true → self.entry ≡ Occurrence.Ground }
+    {
+        matches!(self, Occurrence::Ground)
+    }
+}
+
+/// What the occurs check sees of a variable: it is unbound, it stands for a term without variables, or the term of
+/// what it is bound to.
+#[derive(Clone, Copy)]
+pub enum Seen<'a> {
+    Unbound,
+    Ground,
+    Below(Bare<'a>),
+}
+
+/// What is seen of a variable. It takes no memory.
+fn seen<'a>(store: &Store<'a>, x: Var) -> Seen<'a>
+    ensures { IsSeen store.now x result }
+{
+    match store.found(x) {
+        Found::Nothing => Seen::Unbound,
+        Found::Ground(_) => Seen::Ground,
+        Found::Plain(b) => Seen::Below(b),
+        Found::Moved(b) => Seen::Below(b),
+    }
+}
+
+/// A variable does not occur where all was looked through; unbound ones may have been seen.
+fn without(is_open: bool) -> Occurrence
+    ensures { result ≡ (if is_open then Occurrence.Apart else Occurrence.Ground) }
+{
+    if is_open {
+        Occurrence::Apart
+    } else {
+        Occurrence::Ground
+    }
 }
 
 /// The number that those in a term are below.
@@ -37,8 +86,8 @@ fn occurs_below<'a>(
     first: Bare<'a>,
 ) -> Result<Occurrence, Memory>
     ensures found { IfOk result (λ o. does_occur o ≡ occurs_in store.now x first.entry) }
-    ensures ground { IfOk result (λ o. o ≡ occurrences.Ground →
-        NoVars (under (bindings_of store.now) (bare_term first.entry))) }
+    ensures ground { IfOk result (λ o. o ≡ Occurrence.Ground →
+        HasNoVars (under (bindings_of store.now) (bare_term first.entry))) }
 {
     let mut is_open = false;
     let mut waiting = Vec::new(alloc);
@@ -63,7 +112,7 @@ fn occurs_below<'a>(
             }
             Term::Susp(_, y) => {
                 let y = Var { num: base + y.num };
-                match store.seen(y) {
+                match seen(store, y) {
                     Seen::Below(b) => {
                         base = b.base;
                         end = end_of(b);
@@ -81,11 +130,7 @@ fn occurs_below<'a>(
             }
         }
         let Some(next) = waiting.pop() else {
-            return Ok(if is_open {
-                Occurrence::Apart
-            } else {
-                Occurrence::Ground
-            });
+            return Ok(without(is_open));
         };
         base = next.base;
         end = end_of(next);
@@ -98,7 +143,8 @@ impl<'a> Store<'a> {
     /// variable is new, and takes memory where a left part of a pair is looked through alone.
     pub fn occurs(&self, alloc: Global, x: Var, c: &Closure<'a>) -> Result<Occurrence, Memory>
         ensures found { IfOk result (λ o. does_occur o ≡ occurs x (meaning_in self.now c.now)) }
-        ensures ground { IfOk result (λ o. o ≡ occurrences.Ground → NoVars (meaning_in self.now c.now)) }
+        ensures ground { IfOk result (λ o. o ≡ Occurrence.Ground →
+            HasNoVars (meaning_in self.now c.now)) }
     {
         if self.is_new(x, c) {
             return Ok(Occurrence::Apart);

@@ -12,7 +12,8 @@ use ap_equations::plain::Plain;
 use ap_store::slots::Found;
 use ap_store::store::Store;
 
-/// No suspension, an unbound variable on which no swappings wait, or another suspension.
+/// No suspension, which may be known to be ground, an unbound variable on which no swappings wait, or another
+/// suspension.
 #[derive(Clone, Copy)]
 pub enum Head {
     Form(bool),
@@ -20,11 +21,13 @@ pub enum Head {
     Other,
 }
 
-/// What one look at the head of a part finds: what stands there, or what is bound to the variable there,
-/// where no swappings wait on either.
+/// What one look at the head of a part finds: what stands there, or what is bound to the variable there, which may
+/// be known to be ground, where no swappings wait on either.
 #[derive(Clone, Copy)]
 pub enum Look<'a> {
-    Ends(Head),
+    Form,
+    Free(Var),
+    Other,
     Further(Plain<'a>),
     Ground(Plain<'a>),
 }
@@ -41,21 +44,21 @@ fn look_at<'a>(store: &Store<'a>, p: Plain<'a>) -> Look<'a>
     ensures { IsLook (present store.now) (rank store.now) (plain_term p.entry) result }
 {
     match p.term {
-        Term::Unit => Look::Ends(Head::Form(false)),
-        Term::Name(_) => Look::Ends(Head::Form(false)),
-        Term::Pair(_, _) => Look::Ends(Head::Form(false)),
-        Term::App(_, _) => Look::Ends(Head::Form(false)),
-        Term::Abs(_, _) => Look::Ends(Head::Form(false)),
+        Term::Unit => Look::Form,
+        Term::Name(_) => Look::Form,
+        Term::Pair(_, _) => Look::Form,
+        Term::App(_, _) => Look::Form,
+        Term::Abs(_, _) => Look::Form,
         Term::Susp(q, x) => {
             if !q.items().is_empty() {
-                return Look::Ends(Head::Other);
+                return Look::Other;
             }
             let x = Var {
                 num: p.base + x.num,
             };
             match store.found(x) {
-                Found::Nothing => Look::Ends(Head::Free(x)),
-                Found::Moved(_) => Look::Ends(Head::Other),
+                Found::Nothing => Look::Free(x),
+                Found::Moved(_) => Look::Other,
                 Found::Plain(b) => Look::Further(Plain {
                     base: b.base,
                     end: b.end,
@@ -83,13 +86,24 @@ pub fn headed<'a>(store: &Store<'a>, mut p: Plain<'a>) -> PartWithHead<'a>
     let mut ground = false;
     'following: loop {
         match look_at(store, p) {
-            Look::Ends(Head::Form(_)) => {
+            Look::Form => {
                 return PartWithHead {
                     part: p,
                     head: Head::Form(ground),
                 };
             }
-            Look::Ends(head) => return PartWithHead { part: p, head },
+            Look::Free(x) => {
+                return PartWithHead {
+                    part: p,
+                    head: Head::Free(x),
+                };
+            }
+            Look::Other => {
+                return PartWithHead {
+                    part: p,
+                    head: Head::Other,
+                };
+            }
             Look::Further(further) => p = further,
             Look::Ground(further) => {
                 p = further;

@@ -1,11 +1,12 @@
 //! The rules for two parts of terms on which no swappings wait.
 
-ghost use Rattle.std.specs.Prelude.{◌≡◌, ◌<◌, ◌+◌, ℕ, List, [], false, IfOk, OnOk};
+ghost use Rattle.std.specs.Prelude.{◌≡◌, ◌<◌, ◌+◌, ℕ, List, [], false, true, IfOk, OnOk};
 ghost use Rattle.ap_defs.specs.Permutations.{name_eq};
 ghost use Rattle.ap_defs.specs.Renaming.{IsBelow, rename_name, rename_term};
 ghost use Rattle.ap_defs.specs.Substitution.{Binding, occurs, under};
 ghost use Rattle.ap_defs.specs.Terms.{susp, term_of};
 ghost use Rattle.ap_defs.specs.Unification.{bind, unless_occurs};
+ghost use Rattle.ap_store.specs.Marks.{HasNoVars};
 ghost use Rattle.ap_store.specs.Triples.{IsPrefixOf};
 ghost use Rattle.ap_store.specs.Views.{bindings_of, kinds, present, versions};
 ghost use Rattle.ap_theory.specs.Variables.{IsUnbound};
@@ -23,7 +24,6 @@ use ap_equations::work::bind_plain;
 use ap_perm::joining::numbered;
 use ap_rules::pairs::Work;
 use ap_store::heads::head_key;
-use ap_store::occurrences::Occurrence;
 use ap_store::store::Store;
 use std::alloc::Global;
 
@@ -58,6 +58,8 @@ fn bind_part<'a>(
     requires unbound { IsUnbound (bindings_of store.old) x }
     requires part { IsBelow (present store.old).next (plain_term p) }
     requires absent { occurs x (under (bindings_of store.old) (plain_term p)) ≡ false }
+    requires ground { ground ≡ true →
+        HasNoVars (under (bindings_of store.old) (plain_term p)) }
     ensures turn { IfOk result (λ turn. (f : Ahead) → IsRuleFor turn f (bindings_of store.old)
         (bindings_of store.new) (bind x (under (bindings_of store.old) (plain_term p.entry)))) }
     ensures below { IfOk result (λ turn. (f : Ahead) →
@@ -72,7 +74,7 @@ fn bind_part<'a>(
     Ok(Turn::Done)
 }
 
-/// Binds an unbound variable to a part, unless it occurs there.
+/// Binds an unbound variable to a part, unless it occurs there. One that is known to be ground needs no look.
 fn bind_unless_occurs<'a>(
     alloc: Global,
     store: &mut Store<'a>,
@@ -84,6 +86,8 @@ fn bind_unless_occurs<'a>(
     requires made { x.num < (present store.old).next }
     requires unbound { IsUnbound (bindings_of store.old) x }
     requires part { IsBelow (present store.old).next (plain_term p) }
+    requires ground { ground ≡ true →
+        HasNoVars (under (bindings_of store.old) (plain_term p)) }
     ensures turn { IfOk result (λ turn. (f : Ahead) → IsRuleFor turn f (bindings_of store.old)
         (bindings_of store.new) (unless_occurs x
         (under (bindings_of store.old) (plain_term p.entry))
@@ -100,11 +104,11 @@ fn bind_unless_occurs<'a>(
         return bind_part(alloc, store, work, x, p, true);
     }
     let c = p.closure(alloc);
-    match store.occurs(alloc, x, &c)? {
-        Occurrence::Occurs => Ok(Turn::Clash),
-        Occurrence::Apart => bind_part(alloc, store, work, x, p, false),
-        Occurrence::Ground => bind_part(alloc, store, work, x, p, true),
+    let found = store.occurs(alloc, x, &c)?;
+    if found.occurs() {
+        return Ok(Turn::Clash);
     }
+    bind_part(alloc, store, work, x, p, found.is_ground())
 }
 
 /// Of two different variables the one with the greater number is bound.
