@@ -24,7 +24,7 @@ use Rattle.ap_store.specs.declared.slots.Slot.{Slot}
 use Rattle.ap_store.specs.declared.store.Store.{Store}
 
 pub no_vars_act : (p : List Swap) (t : NominalTerm) → HasNoVars t → HasNoVars (act_term p t)
-no_vars_act p t h y = occurs_act y p t ∙ h y
+no_vars_act p t h = λ y. occurs_act y p t ∙ h y
 
 -- no change brings a variable where none is left
 no_vars_stay : (c : Change) (a : Triple) → IsChange c a → (t : NominalTerm) → HasNoVars (under a.bindings t) → HasNoVars (under (after c a).bindings t)
