@@ -36,14 +36,14 @@ returns-in_ok-keep_right-in-Pair-clause-same c =
     let s = c.args.store.now in
     let all : meaning_in s c.args.c ≡ pair (meaning_in s c.in-Pair.left) (meaning_in s c.in-Pair.right) =
     sym c.in_ok-head.ensures.term ∙ ap (under (bindings_of s)) (sym c.in_ok-open.ensures ∙ ap opened_term c.in-Pair.is) in
-    c.in_ok-keep_right.ensures.same s (canonical_term (meaning_in s c.in-Pair.left)) ∙ ap (closed_within s c.args.rounds.now.items) (sym (ap canonical_term all))
+    c.in_ok-keep_right-in-Pair.ensures.same s (canonical_term (meaning_in s c.in-Pair.left)) ∙ ap (closed_within s c.args.rounds.now.items) (sym (ap canonical_term all))
 
 pub returns-in_ok-keep_right-in-Pair-clause-less : goal.returns-in_ok-keep_right-in-Pair-clause-less
 returns-in_ok-keep_right-in-Pair-clause-less c =
     let s = c.args.store.now in
     let all : meaning_in s c.args.c ≡ pair (meaning_in s c.in-Pair.left) (meaning_in s c.in-Pair.right) =
     sym c.in_ok-head.ensures.term ∙ ap (under (bindings_of s)) (sym c.in_ok-open.ensures ∙ ap opened_term c.in-Pair.is) in
-    let kept = c.in_ok-keep_right.ensures.work s in
+    let kept = c.in_ok-keep_right-in-Pair.ensures.work s in
     let less = pair_work (meaning_in s c.args.c) (meaning_in s c.in-Pair.left) (meaning_in s c.in-Pair.right) all in
     omega (arith, kept, less)
 
