@@ -36,9 +36,9 @@ Among xs x = has_var x xs ≡ true
 
 -- What the state binds, and its conditions, have no variables but these.
 pub record IsOver (xs : List Var) (s : State) : Type 0 where
-  idempotent : IsIdempotent s.bindings
-  bindings : EachBinding (Among xs) s.bindings
-  conditions : EachCond (Among xs) s.conditions
+  pub idempotent : IsIdempotent s.bindings
+  pub bindings : EachBinding (Among xs) s.bindings
+  pub conditions : EachCond (Among xs) s.conditions
 
 -- More variables.
 module _ (xs ys : List Var) where
