@@ -25,14 +25,14 @@ pub enum Occurrence {
 impl Occurrence {
     /// Whether the variable occurs.
     pub fn occurs(self) -> bool
-        ensures { result ≡ does_occur self.entry }
+        ensures { result ≡ does_occur self }
     {
         matches!(self, Occurrence::Occurs)
     }
 
     /// Whether no variable stands there.
     pub fn is_ground(self) -> bool
-        ensures { result ≡ true → self.entry ≡ Occurrence.Ground }
+        ensures { result ≡ true → self ≡ Occurrence.Ground }
     {
         matches!(self, Occurrence::Ground)
     }
