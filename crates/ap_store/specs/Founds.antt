@@ -10,8 +10,8 @@ use Rattle.ap_store.specs.Marks.{HasNoVars}
 use Rattle.ap_store.specs.Views.{bindings_of, raw_bound}
 use Rattle.ap_store.specs.declared.occurrences.Occurrence.{Occurrence}
 use Rattle.ap_store.specs.declared.occurrences.Occurrence.TheVariants as occurrences
-use Rattle.ap_store.specs.declared.occurrences.Seen.{Seen}
-use Rattle.ap_store.specs.declared.occurrences.Seen.TheVariants as sights
+use Rattle.ap_store.specs.declared.occurrences.Sight.{Sight}
+use Rattle.ap_store.specs.declared.occurrences.Sight.TheVariants as sights
 use Rattle.ap_store.specs.declared.slots.Found.{Found}
 use Rattle.ap_store.specs.declared.slots.Found.TheVariants as founds
 use Rattle.ap_store.specs.declared.store.Store.{Store}
@@ -44,10 +44,10 @@ is_ground_found (founds.Ground b) = true
 is_ground_found (founds.Moved b) = false
 
 -- the variable is unbound, or stands for a term without variables, or but for swappings for the term
-abbrev pub IsSeen : Store → Var → Seen → Type 0
-IsSeen s x sights.Unbound = raw_bound s x ≡ None
-IsSeen s x sights.Ground = HasNoVars (under (bindings_of s) (susp [] x))
-IsSeen s x (sights.Below b) = (p : List Swap) × (raw_bound s x ≡ Some (act_term p (bare_term b)))
+abbrev pub IsSight : Store → Var → Sight → Type 0
+IsSight s x sights.Unbound = raw_bound s x ≡ None
+IsSight s x sights.Ground = HasNoVars (under (bindings_of s) (susp [] x))
+IsSight s x (sights.Below b) = (p : List Swap) × (raw_bound s x ≡ Some (act_term p (bare_term b)))
 
 -- whether the variable occurs
 abbrev pub does_occur : Occurrence → Bool

@@ -2,7 +2,7 @@
 
 ghost use Rattle.std.specs.Prelude.{◌≡◌, true, if◌then◌else◌, IfOk};
 ghost use Rattle.ap_defs.specs.Substitution.{occurs, under};
-ghost use Rattle.ap_store.specs.Founds.{IsSeen, bare_term, does_occur, occurs_in};
+ghost use Rattle.ap_store.specs.Founds.{IsSight, bare_term, does_occur, occurs_in};
 ghost use Rattle.ap_store.specs.Marks.{HasNoVars};
 ghost use Rattle.ap_store.specs.Views.{bindings_of, meaning_in};
 
@@ -41,21 +41,21 @@ impl Occurrence {
 /// What the occurs check sees of a variable: it is unbound, it stands for a term without variables, or the term of
 /// what it is bound to.
 #[derive(Clone, Copy)]
-pub enum Seen<'a> {
+pub enum Sight<'a> {
     Unbound,
     Ground,
     Below(Bare<'a>),
 }
 
 /// What is seen of a variable. It takes no memory.
-fn seen<'a>(store: &Store<'a>, x: Var) -> Seen<'a>
-    ensures { IsSeen store.now x result }
+fn seen<'a>(store: &Store<'a>, x: Var) -> Sight<'a>
+    ensures { IsSight store.now x result }
 {
     match store.found(x) {
-        Found::Nothing => Seen::Unbound,
-        Found::Ground(_) => Seen::Ground,
-        Found::Plain(b) => Seen::Below(b),
-        Found::Moved(b) => Seen::Below(b),
+        Found::Nothing => Sight::Unbound,
+        Found::Ground(_) => Sight::Ground,
+        Found::Plain(b) => Sight::Below(b),
+        Found::Moved(b) => Sight::Below(b),
     }
 }
 
@@ -113,14 +113,14 @@ fn occurs_below<'a>(
             Term::Susp(_, y) => {
                 let y = Var { num: base + y.num };
                 match seen(store, y) {
-                    Seen::Below(b) => {
+                    Sight::Below(b) => {
                         base = b.base;
                         end = end_of(b);
                         rest = b.term;
                         continue;
                     }
-                    Seen::Ground => {}
-                    Seen::Unbound => {
+                    Sight::Ground => {}
+                    Sight::Unbound => {
                         if x.num == y.num {
                             return Ok(Occurrence::Occurs);
                         }

@@ -8,9 +8,9 @@ use Rattle.ap_defs.specs.declared.terms.Term.{Term}
 use Rattle.ap_theory.proofs.BooleanLemmas.{or_assoc}
 use Rattle.ap_theory.proofs.TermLemmas.{same_number}
 use Rattle.ap_defs.specs.declared.terms.Var.{Var}
-use Rattle.ap_store.specs.Founds.{IsSeen, bare_term, does_occur, occurs_in}
+use Rattle.ap_store.specs.Founds.{IsSight, bare_term, does_occur, occurs_in}
 use Rattle.ap_store.specs.Views.{bindings_of, raw_bound}
-use Rattle.ap_store.specs.declared.occurrences.Seen.TheVariants as sights
+use Rattle.ap_store.specs.declared.occurrences.Sight.TheVariants as sights
 use Rattle.ap_store.proofs.FollowLemmas.{both_less, bound_less, bound_occurs, unbound_occurs, visits_in}
 use Rattle.ap_store.proofs.WaitingLemmas.{apart_here, comes_next, ground_here, leaf_here, none_left, not_found, occurs_in_any, part_has, shut_if_ground, one_waits, some_visits, visits_in_all, visits_last}
 use Rattle.ap_store.proofs.occurrences.occurs_below.Goals as goal
@@ -55,7 +55,7 @@ seeking-smaller-in-Below c =
     let z = rename_var c.seeking.base c.in-Susp.y in
     let q = map (rename_swap c.seeking.base) c.in-Susp.field-0 in
     let d = c.in-Below.b in
-    let k : IsSeen s z (sights.Below d) = subst (IsSeen s z) c.in-Below.is c.seen.ensures in
+    let k : IsSight s z (sights.Below d) = subst (IsSight s z) c.in-Below.is c.seen.ensures in
     let (p, m) = k in
     let l : visits_in s (bare_term d) < visits_in s (rename_term c.seeking.base (term_of c.seeking.rest.now)) =
     subst (λ (w : Term). visits_in s (bare_term d) < visits_in s (rename_term c.seeking.base (term_of w))) (sym c.in-Susp.is) (bound_less s q z p (bare_term d) m) in
@@ -67,7 +67,7 @@ seeking-preserved-in-Below c =
     let z = rename_var c.seeking.base c.in-Susp.y in
     let q = map (rename_swap c.seeking.base) c.in-Susp.field-0 in
     let d = c.in-Below.b in
-    let k : IsSeen s z (sights.Below d) = subst (IsSeen s z) c.in-Below.is c.seen.ensures in
+    let k : IsSight s z (sights.Below d) = subst (IsSight s z) c.in-Below.is c.seen.ensures in
     let (p, m) = k in
     let e : (y : Var) → occurs y (under (bindings_of s) (rename_term c.seeking.base (term_of c.seeking.rest.now))) ≡ occurs_in s y d =
     λ y. ap (λ (u : Term). occurs y (under (bindings_of s) (rename_term c.seeking.base (term_of u)))) c.in-Susp.is ∙ bound_occurs s y z q p (bare_term d) m in
@@ -81,7 +81,7 @@ pub returns-then-x-y-clause-found : goal.returns-then-x-y-clause-found
 returns-then-x-y-clause-found c =
     let s = c.args.store.now in
     let z = rename_var c.seeking.base c.in-Susp.y in
-    let none : raw_bound s z ≡ None = subst (IsSeen s z) c.in-Unbound.is c.seen.ensures in
+    let none : raw_bound s z ≡ None = subst (IsSight s z) c.in-Unbound.is c.seen.ensures in
     let here : occurs c.args.x (under (bindings_of s) (rename_term c.seeking.base (term_of c.seeking.rest.now))) ≡ true =
     ap (λ (u : Term). occurs c.args.x (under (bindings_of s) (rename_term c.seeking.base (term_of u)))) c.in-Susp.is
     ∙ unbound_occurs s c.args.x z (map (rename_swap c.seeking.base) c.in-Susp.field-0) none
@@ -99,10 +99,10 @@ returns-in_default-pop-clause-found c =
     c.in_default-pop.ensures.items ∙ append-nil c.pop.new.self.items ∙ nil_from_length c.pop.new.self.items (let l = c.pop.new.self.ok.0 in let h = c.in_default-pop.ensures.cases in omega (arith, l, h.1)) in
     let all : false ≡ occurs_in s x c.args.first = elim c.match-rest.branch [
       | in-Susp+in-Unbound+else-x-y w ↦ none_left s x (part_has s c.seeking.base c.seeking.rest.now x) c.seeking.waiting.items
-          (apart_here s c.seeking.base c.seeking.rest.now w.in-Susp.field-0 w.in-Susp.y x w.in-Susp.is (subst (IsSeen s (rename_var c.seeking.base w.in-Susp.y)) w.in-Unbound.is w.seen.ensures) w.if-x-y.false)
+          (apart_here s c.seeking.base c.seeking.rest.now w.in-Susp.field-0 w.in-Susp.y x w.in-Susp.is (subst (IsSight s (rename_var c.seeking.base w.in-Susp.y)) w.in-Unbound.is w.seen.ensures) w.if-x-y.false)
           none ∙ c.seeking.invariant.all x (λ o. refl)
       | in-Susp+in-Ground w ↦ none_left s x (part_has s c.seeking.base c.seeking.rest.now x) c.seeking.waiting.items
-          (ground_here s c.seeking.base c.seeking.rest.now w.in-Susp.field-0 w.in-Susp.y x w.in-Susp.is (subst (IsSeen s (rename_var c.seeking.base w.in-Susp.y)) w.in-Ground.is w.seen.ensures))
+          (ground_here s c.seeking.base c.seeking.rest.now w.in-Susp.field-0 w.in-Susp.y x w.in-Susp.is (subst (IsSight s (rename_var c.seeking.base w.in-Susp.y)) w.in-Ground.is w.seen.ensures))
           none ∙ c.seeking.invariant.all x (λ o. refl)
       | in-Unit w ↦ none_left s x (part_has s c.seeking.base c.seeking.rest.now x) c.seeking.waiting.items (leaf_here s c.seeking.base c.seeking.rest.now x w.in-Unit.is) none ∙ c.seeking.invariant.all x (λ o. refl)
       | in-Unit-2 w ↦ none_left s x (part_has s c.seeking.base c.seeking.rest.now x) c.seeking.waiting.items (leaf_here s c.seeking.base c.seeking.rest.now x w.in-Unit.is) none ∙ c.seeking.invariant.all x (λ o. refl)
@@ -118,7 +118,7 @@ returns-in_default-pop-clause-ground c =
     sym (elim c.match-rest.branch [
       | in-Susp+in-Unbound+else-x-y w ↦ absurd (true≢false (sym w.is_open-is ∙ shut))
       | in-Susp+in-Ground w ↦ none_left s y (part_has s c.seeking.base c.seeking.rest.now y) c.seeking.waiting.items
-          (ground_here s c.seeking.base c.seeking.rest.now w.in-Susp.field-0 w.in-Susp.y y w.in-Susp.is (subst (IsSeen s (rename_var c.seeking.base w.in-Susp.y)) w.in-Ground.is w.seen.ensures))
+          (ground_here s c.seeking.base c.seeking.rest.now w.in-Susp.field-0 w.in-Susp.y y w.in-Susp.is (subst (IsSight s (rename_var c.seeking.base w.in-Susp.y)) w.in-Ground.is w.seen.ensures))
           none ∙ c.seeking.invariant.all y (λ o. absurd (true≢false (sym o ∙ sym w.is_open-is ∙ shut)))
       | in-Unit w ↦ none_left s y (part_has s c.seeking.base c.seeking.rest.now y) c.seeking.waiting.items (leaf_here s c.seeking.base c.seeking.rest.now y w.in-Unit.is) none
           ∙ c.seeking.invariant.all y (λ o. absurd (true≢false (sym o ∙ sym w.is_open-is ∙ shut)))
@@ -144,10 +144,10 @@ seeking-preserved c =
       all = λ y g. elim c.match-rest.branch [
         | in-Susp+in-Unbound+else-x-y w ↦
             let same : y ≡ x = g w.is_open-is in
-            let seen = subst (IsSeen s (rename_var c.seeking.base w.in-Susp.y)) w.in-Unbound.is w.seen.ensures in
+            let seen = subst (IsSight s (rename_var c.seeking.base w.in-Susp.y)) w.in-Unbound.is w.seen.ensures in
             next y (ap has same ∙ apart_here s c.seeking.base c.seeking.rest.now w.in-Susp.field-0 w.in-Susp.y x w.in-Susp.is seen w.if-x-y.false) ∙ c.seeking.invariant.all y (λ o. same)
         | in-Susp+in-Ground w ↦
-            let seen = subst (IsSeen s (rename_var c.seeking.base w.in-Susp.y)) w.in-Ground.is w.seen.ensures in
+            let seen = subst (IsSight s (rename_var c.seeking.base w.in-Susp.y)) w.in-Ground.is w.seen.ensures in
             next y (ground_here s c.seeking.base c.seeking.rest.now w.in-Susp.field-0 w.in-Susp.y y w.in-Susp.is seen) ∙ c.seeking.invariant.all y (λ o. g (w.is_open-is ∙ o))
         | in-Unit w ↦ next y (leaf_here s c.seeking.base c.seeking.rest.now y w.in-Unit.is) ∙ c.seeking.invariant.all y (λ o. g (w.is_open-is ∙ o))
         | in-Unit-2 w ↦ next y (leaf_here s c.seeking.base c.seeking.rest.now y w.in-Unit.is) ∙ c.seeking.invariant.all y (λ o. g (w.is_open-is ∙ o))
