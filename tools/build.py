@@ -25,6 +25,8 @@ NOT_BUILT = 70
 LIBRARIES_BY_RT = 3
 # The memory that one check may take.
 BYTES_A_CHECK = 3 << 30
+# What `loop_seconds` gives on the machine of docs/ARCHITECTURE.md's table, when nothing else is at work.
+LOOP_SECONDS_OF_THE_TABLE = 0.08
 
 
 def say(text):
@@ -99,14 +101,24 @@ def measured_minutes():
     return {name: float(minutes) for name, minutes in rows}
 
 
+def loop_seconds():
+    """The processor seconds of a short loop: how fast this machine is."""
+    start = time.process_time()
+    total = 0
+    for number in range(1_000_000):
+        total += number
+    return time.process_time() - start
+
+
 def estimate(left, below, jobs):
-    """The minutes that so many jobs need for these crates: no less than their longest chain."""
+    """The minutes that so many jobs need for these crates on this machine: no less than their longest chain."""
     minutes, chain = measured_minutes(), {}
     for name in left:
         longest = max([chain.get(library, 0) for library in below[name]], default=0)
         chain[name] = minutes.get(name, 1) + longest
     total = sum(minutes.get(name, 1) for name in left)
-    return max(1, round(max(total / jobs, max(chain.values(), default=0)) * 1.2))
+    pace = min(loop_seconds() for _ in range(3)) / LOOP_SECONDS_OF_THE_TABLE
+    return max(1, round(max(total / jobs, max(chain.values(), default=0)) * 1.1 * pace))
 
 
 def processors():

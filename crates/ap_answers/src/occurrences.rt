@@ -71,7 +71,13 @@ fn add_names_at(names: &mut IndexSet<Name>, part: &Term) -> Result<(), Memory>
     match part {
         Term::Unit | Term::Pair(_, _) | Term::App(_, _) => Ok(()),
         Term::Name(name) => add_name(names, *name),
-        Term::Abs(name, _) => add_name(names, *name),
+        Term::Abs(sort, num, _) => {
+            let name = Name {
+                sort: *sort,
+                num: *num,
+            };
+            add_name(names, name)
+        }
         Term::Susp(swaps, _) => add_swapped(names, swaps.items()),
     }
 }

@@ -251,8 +251,12 @@ fn write_part<'a>(
                 }));
             }
         }
-        Term::Abs(name, body) => {
-            begin_abstraction(out, by, *name, place)?;
+        Term::Abs(sort, num, body) => {
+            let name = Name {
+                sort: *sort,
+                num: *num,
+            };
+            begin_abstraction(out, by, name, place)?;
             return Ok(Some(Part {
                 term: body,
                 place: Place::Whole,

@@ -131,7 +131,7 @@ module _ (program : Clauses) (d : ℕ) (q : NominalQuery) where
       ∙ ap (beginning mark_path (path_of_standing s ++ k ∷ [])) h
       ∙ sym m
 
-asked_once : {X : Type 0} (o : Option X) (x y : X) → o ≡ Some x → o ≡ Some y → x ≡ y
+pub asked_once : {X : Type 0} (o : Option X) (x y : X) → o ≡ Some x → o ≡ Some y → x ≡ y
 asked_once o x y h k = cc
 
 -- The outputs of a problem, as far as they are wanted.

@@ -1,7 +1,7 @@
 -- How many goals a search selects, which bounds its turns.
 use Rattle.std.specs.Prelude.{ℕ, zero, suc, ◌+◌, List, [], ◌∷◌, Option, Some, None}
 use Rattle.ap_defs.specs.Freshness.{reduce}
-use Rattle.ap_defs.specs.Goals.{NominalGoal, succeed, atom, equal, fresh, both, either, exists, new, NominalClause, Clauses, clauses_of}
+use Rattle.ap_defs.specs.Goals.{NominalGoal, succeed, atom, equal, fresh, both, either, exists, new, NominalClause, NominalQuery, Clauses, clauses_of}
 use Rattle.ap_defs.specs.Occurrences.{free_vars}
 use Rattle.ap_defs.specs.Renaming.{rename_goal}
 use Rattle.ap_defs.specs.Resolution.{State, fresh_for_each, next_number}
@@ -11,6 +11,7 @@ use Rattle.ap_defs.specs.Terms.{NominalTerm}
 use Rattle.ap_defs.specs.Unification.{reduce_all, unify}
 use Rattle.ap_search.specs.Continuations.{Waiting}
 use Rattle.ap_machine.specs.Positions.{Position, Turned, clause_state, ends, goes, reduced_state, unified_state}
+use Rattle.ap_backchain.specs.Starts.{first_position}
 
 abbrev pub turns_if : (State → ℕ) → Option State → ℕ
 turns_if k None = 0
@@ -53,3 +54,11 @@ turns_from_each program (p ∷ ps) = turns_from program p + turns_from_each prog
 abbrev pub turns_of_turned : Clauses → Turned → ℕ
 turns_of_turned program (ends o) = 0
 turns_of_turned program (goes ps) = turns_from_each program ps
+
+-- those of the search of a query to a depth
+abbrev pub query_turns : Clauses → ℕ → NominalQuery → ℕ
+query_turns program d q = turns_from program (first_position d q)
+
+-- a search that takes no more is short
+abbrev pub few_turns : ℕ
+few_turns = 1000

@@ -1,11 +1,12 @@
 //! Queries of restricted programs.
 
-ghost use Rattle.std.specs.Prelude.{◌≡◌, ◌-◌, Some, IfOk, IfSome, map, slice_get};
+ghost use Rattle.std.specs.Prelude.{◌≡◌, ◌<◌, ◌-◌, None, Some, IfOk, IfSome, map, slice_get};
 ghost use Rattle.ap_defs.specs.Answers.{outs_of, query_outs};
 ghost use Rattle.ap_defs.specs.Goals.{NominalQuery, program_in, query_of};
 ghost use Rattle.ap_machine.specs.Below.{AreClausesBelow, IsQueryBelow};
 ghost use Rattle.ap_backchain.specs.Ends.{kept_out};
 ghost use Rattle.ap_backchain.specs.Problems.{HasQuery, clauses_in, program_of_problem, queries_in};
+ghost use Rattle.ap_backchain.specs.Turns.{few_turns, query_turns};
 ghost use Rattle.ap_paths.specs.Limits.{part};
 ghost use Rattle.ap_program.specs.Typed.{IsTypedProgram, IsTypedQuery, term_form};
 
@@ -89,10 +90,13 @@ pub fn short_outputs(
     limit: Limit,
 ) -> Result<Option<Vec<Out>>, Memory>
     requires { HasQuery p.now }
-    ensures { IfOk result (λ o. IfSome o (λ v. (q : NominalQuery) →
+    ensures outs { IfOk result (λ o. IfSome o (λ v. (q : NominalQuery) →
         slice_get (queries_in p.now) (p.now.query - 1) ≡ Some q →
         outs_of v.items
         ≡ map (kept_out paths) (part limit (query_outs (clauses_in p.now) p.now.depth q)))) }
+    ensures many { IfOk result (λ o. o ≡ None → (q : NominalQuery) →
+        slice_get (queries_in p.now) (p.now.query - 1) ≡ Some q →
+        few_turns < query_turns (clauses_in p.now) p.now.depth q) }
 {
     let clauses = clauses_of_problem(p);
     let query = query_of_problem(p);

@@ -12,6 +12,7 @@ ghost use Rattle.ap_machine.specs.Machines.{next_of, position_of};
 ghost use Rattle.ap_machine.specs.Positions.{outs_from, turned, turned_goal};
 ghost use Rattle.ap_backchain.specs.Searches.{HasPoints, ended_outs, positions_followed, pending_positions, positions_with};
 ghost use Rattle.ap_backchain.specs.Starts.{first_position};
+ghost use Rattle.ap_backchain.specs.Turns.{few_turns, query_turns, turns_from};
 ghost use Rattle.ap_backchain.specs.Wanted as limits;
 ghost use Rattle.ap_paths.specs.Limits.{part};
 
@@ -233,7 +234,8 @@ pub fn outputs_from<'a>(
     Ok(outs)
 }
 
-/// The outputs from a machine, as `outputs_from`, where the search takes few turns.
+/// The outputs from a machine, as `outputs_from`, where the search takes few turns: none says that it takes
+/// more.
 fn outputs_soon<'a>(
     alloc: Global,
     clauses: &'a [Predicate<'a>],
@@ -244,9 +246,11 @@ fn outputs_soon<'a>(
 ) -> Result<Option<Vec<Out>>, Memory>
     requires clauses { AreClausesBelow (program_in clauses.now) }
     requires locals { length locals.now < 2 ^ 64 }
-    ensures { IfOk result (λ o. IfSome o (λ v. outs_of v.items
+    ensures outs { IfOk result (λ o. IfSome o (λ v. outs_of v.items
         ≡ map (kept_out paths) (part limit (outs_from (program_in clauses.now)
         (locals_of locals.now) (position_of first.entry))))) }
+    ensures many { IfOk result (λ o. o ≡ None →
+        few_turns < turns_from (program_in clauses.now) (position_of first.entry)) }
 {
     let mut outs = Vec::new(alloc);
     let mut points = Vec::new(alloc);
@@ -272,7 +276,8 @@ fn outputs_soon<'a>(
     Ok(None)
 }
 
-/// The outputs from where the search of a query begins, as `outputs_of_query`, where it takes few turns.
+/// The outputs from where the search of a query begins, as `outputs_of_query`, where it takes few turns: none
+/// says that it takes more.
 pub fn outputs_of_short_query<'a>(
     alloc: Global,
     clauses: &'a [Predicate<'a>],
@@ -283,9 +288,11 @@ pub fn outputs_of_short_query<'a>(
 ) -> Result<Option<Vec<Out>>, Memory>
     requires clauses { AreClausesBelow (program_in clauses.now) }
     requires query { IsQueryBelow (query_of query.now) }
-    ensures { IfOk result (λ o. IfSome o (λ v. outs_of v.items
+    ensures outs { IfOk result (λ o. IfSome o (λ v. outs_of v.items
         ≡ map (kept_out paths) (part limit (outs_from (program_in clauses.now)
         (query_of query.now).locals (first_position depth (query_of query.now)))))) }
+    ensures many { IfOk result (λ o. o ≡ None →
+        few_turns < query_turns (program_in clauses.now) depth (query_of query.now)) }
 {
     let first = first_machine(alloc, depth, query)?;
     outputs_soon(alloc, clauses, query.locals.items(), paths, limit, first)

@@ -8,7 +8,7 @@ ghost use Rattle.ap_bundle_read.specs.Stacks.{stacked, term_forms};
 use crate::numbers::{a_name, first_number, small, swaps};
 use crate::room::give_back;
 use ap_bundle::words::{Letter, Word};
-use ap_defs::lists::List;
+use ap_defs::lists::Swaps;
 use ap_defs::memory::Memory;
 use ap_defs::terms::{Term, Var};
 use std::alloc::Global;
@@ -98,7 +98,7 @@ fn abs_onto(alloc: Global, numbers: Vec<u64>, terms: Vec<Term>) -> Result<Option
         return Ok(None);
     };
     let body = Box::new(alloc, body)?;
-    at_end(numbers, terms, Term::Abs(name, body))
+    at_end(numbers, terms, Term::Abs(name.sort, name.num, body))
 }
 
 #[tactic(auto, unfolding(ap_bundle::specs::Forms::susp_onto))]
@@ -120,7 +120,8 @@ fn susp_onto(
     let Some(num) = first_number(&mut numbers) else {
         return Ok(None);
     };
-    at_end(numbers, terms, Term::Susp(List::of(front), Var { num }))
+    let front = Swaps::of(alloc, front)?;
+    at_end(numbers, terms, Term::Susp(front, Var { num }))
 }
 
 /// A letter before numbers and terms: the term that it begins, and the other terms.

@@ -67,9 +67,13 @@ pub fn push_term(alloc: Global, words: &mut Vec<Word>, term: &Term) -> Result<()
                 words.push(Word::Number(u64::from(*constructor)))?;
                 pending.push(argument)?;
             }
-            Term::Abs(name, body) => {
+            Term::Abs(sort, num, body) => {
                 words.push(Word::Letter(Letter::L))?;
-                push_name(words, *name)?;
+                let name = Name {
+                    sort: *sort,
+                    num: *num,
+                };
+                push_name(words, name)?;
                 pending.push(body)?;
             }
             Term::Susp(swaps, var) => {

@@ -23,9 +23,13 @@ fn moved(alloc: Global, swaps: &[Swap], term: &Term) -> Result<Ground, Memory> {
             let argument = moved(alloc, swaps, argument)?;
             Ok(Ground::App(*f, Box::new(alloc, argument)?))
         }
-        Term::Abs(a, body) => {
+        Term::Abs(sort, num, body) => {
+            let a = Name {
+                sort: *sort,
+                num: *num,
+            };
             let body = moved(alloc, swaps, body)?;
-            Ok(Ground::Abs(image(swaps, *a), Box::new(alloc, body)?))
+            Ok(Ground::Abs(image(swaps, a), Box::new(alloc, body)?))
         }
     }
 }
@@ -80,9 +84,13 @@ fn applied(
             let argument = applied(alloc, swaps, grounding, argument)?;
             Ok(Ground::App(*f, Box::new(alloc, argument)?))
         }
-        Term::Abs(a, body) => {
+        Term::Abs(sort, num, body) => {
+            let a = Name {
+                sort: *sort,
+                num: *num,
+            };
             let body = applied(alloc, swaps, grounding, body)?;
-            Ok(Ground::Abs(image(swaps, *a), Box::new(alloc, body)?))
+            Ok(Ground::Abs(image(swaps, a), Box::new(alloc, body)?))
         }
     }
 }

@@ -54,8 +54,20 @@ pub fn status_of<R: Threads + Wait + Sync, S: Source, K: Sink, G: Gate>(
     top(rt, alloc, words, source, sink, gate).code()
 }
 
-/// The status and the bytes of a call whose reads of these numbers fail. As many workers as the words ask for are
-/// started for each search, however short it is.
+/// The status of a call whose reads of these numbers fail, and which writes into a sink. As many workers as the words
+/// ask for are started for each search, however short it is.
+pub fn call_into<R: Threads + Wait + Sync + AllocGlobal>(
+    rt: &R,
+    words: &[String],
+    input: &[u8],
+    fails: Vec<u64>,
+    sink: &mut MemSink,
+) -> Result<u8, AllocError> {
+    let mut source = MemSource::new(input.to_vec(rt.alloc())?, fails);
+    Ok(status_of(rt, rt.alloc(), words, &mut source, sink, &Starts))
+}
+
+/// The status and the bytes of a call whose reads of these numbers fail.
 pub fn call<R: Threads + Wait + Sync + AllocGlobal>(
     rt: &R,
     words: &[String],
@@ -63,11 +75,10 @@ pub fn call<R: Threads + Wait + Sync + AllocGlobal>(
     fails: Vec<u64>,
 ) -> io::Result<(u8, MemSink)> {
     let alloc = rt.alloc();
-    let mut source = MemSource::new(input.to_vec(alloc)?, fails);
     let Ok(mut sink) = MemSink::new(alloc, ROOM, ROOM, Vec::new(alloc)) else {
         return Err(ErrorKind::OutOfMemory.into());
     };
-    let status = status_of(rt, alloc, words, &mut source, &mut sink, &Starts);
+    let status = call_into(rt, words, input, fails, &mut sink)?;
     Ok((status, sink))
 }
 

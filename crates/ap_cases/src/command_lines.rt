@@ -1,6 +1,6 @@
 //! Command lines, each on one text; and files in which each command line has an input of its own.
 
-use crate::call::{call, words_in};
+use crate::call::{call, words_in, words_of};
 use crate::cases::DIVIDER;
 use std::fs::Files;
 use std::io::Write;
@@ -10,6 +10,12 @@ use std::{fs, io};
 
 /// A text with two answers.
 const TEXT: &str = "nat : type. z : nat. s : nat -> nat. pred p(nat). p(z). p(s(z)). ?- p(X).";
+
+/// How often a word is repeated.
+const OFTEN: u32 = 9999;
+
+/// Words that are repeated.
+const REPEATED: [&str; 3] = ["--depth=5", "--depth", "5"];
 
 /// Writes a line and what the top call writes for its words, with the status, and the status where the first read fails.
 fn run_line<R: Threads + Wait + Sync + AllocGlobal + Print>(rt: &R, line: &str) -> io::Result<()> {
@@ -22,12 +28,27 @@ fn run_line<R: Threads + Wait + Sync + AllocGlobal + Print>(rt: &R, line: &str) 
     println!(rt; "% status {status}, where a read fails {failed}")
 }
 
-/// Runs the command lines of the file `words`.
+/// Writes what the top call writes for `run` and so many times a word, with the status, where the first read fails.
+fn run_often<R: Threads + Wait + Sync + AllocGlobal + Print>(rt: &R, word: &str) -> io::Result<()> {
+    let mut words = words_of(rt.alloc(), &["run"])?;
+    for _ in 0..OFTEN {
+        words.push(word.to_string(rt.alloc())?)?;
+    }
+    let (status, sink) = call(rt, &words, TEXT.as_bytes(), vec![in rt.alloc(); 1]?)?;
+    println!(rt; "run and {OFTEN} times {word}")?;
+    io::writer(rt).write_all(sink.bytes())?;
+    println!(rt; "% status {status}")
+}
+
+/// Runs the command lines of the file `words`, and some with very many words.
 pub fn run_lines<R: Threads + Wait + Sync + AllocGlobal + Files + Print>(rt: &R) -> io::Result<()> {
     println!(rt; "% words")?;
     let all = fs::read_to_string(rt, "words")?;
     for line in all.lines() {
         run_line(rt, line)?;
+    }
+    for word in REPEATED {
+        run_often(rt, word)?;
     }
     Ok(())
 }

@@ -5,7 +5,8 @@
 //! implementation that was written apart. The answers of each text are counted, with what their derivations come to. The
 //! file `words` has command lines, and those of `COMMANDS` some with an input each. The texts of the folders `examples` and
 //! `bytes` are told in `folders.rt` and `streams.rt`, the files of `searched` in `searched.rt`, those of `bundles` in
-//! `bundles.rt` and `prefixes.rt`, and the large texts in `large.rt`. The library's call `cover` is made on the ground
+//! `bundles.rt` and `prefixes.rt`, visits of paths in `visits.rt`, keys of clauses in `keys.rt`, calls whose reads and
+//! writes fail in `failing.rt`, and the large texts in `large.rt`. The library's call `cover` is made on the ground
 //! proofs among all these derivations, and on the proofs of `CALLS`, and it is looked at term by term whether what it gives
 //! covers the proof.
 #![tactic(auto)]
@@ -18,7 +19,9 @@ mod cases;
 mod command_lines;
 mod covering;
 mod derivations;
+mod failing;
 mod folders;
+mod keys;
 mod large;
 mod prefixes;
 mod problems;
@@ -26,6 +29,7 @@ mod proving;
 mod renamed;
 mod searched;
 mod streams;
+mod visits;
 
 use crate::folders::{Task, go_through_folder};
 use std::io;
@@ -83,6 +87,8 @@ fn main(rt: HostRuntime) -> io::Result<()> {
     }
     searched::write_outputs(&rt)?;
     searched::write_branches(&rt)?;
+    visits::write_visits(&rt)?;
+    keys::write_keys(&rt)?;
     go_through_folder(&rt, Task::Run, "bytes")?;
     go_through_folder(&rt, Task::Run, "examples")?;
     go_through_folder(&rt, Task::Examine, "examples")?;
@@ -96,5 +102,6 @@ fn main(rt: HostRuntime) -> io::Result<()> {
     go_through_folder(&rt, Task::Check, "examples")?;
     println!(rt; "% calls")?;
     calls::call_file(&rt, CALLS)?;
+    failing::run_failing(&rt)?;
     large::run_large(&rt)
 }

@@ -39,7 +39,10 @@ fn add_names_at(names: &mut Vec<Name>, part: &Term) -> Result<(), Memory>
     match part {
         Term::Unit | Term::Pair(_, _) | Term::App(_, _) => {}
         Term::Name(a) => names.push(*a)?,
-        Term::Abs(a, _) => names.push(*a)?,
+        Term::Abs(sort, num, _) => names.push(Name {
+            sort: *sort,
+            num: *num,
+        })?,
         Term::Susp(swaps, _) => add_swaps(names, swaps.items())?,
     }
     Ok(())

@@ -3,3 +3,5 @@ pub mod Covers
 pub mod Said
 pub mod Waiting
 pub mod Laws
+pub mod Matched
+pub mod StatementsOnMatching

@@ -30,7 +30,7 @@ fn is_ground_term(t: &Term) -> bool
                 rest = right;
             }
             Term::App(_, argument) => rest = argument,
-            Term::Abs(_, body) => rest = body,
+            Term::Abs(_, _, body) => rest = body,
         }
     }
 }

@@ -9,5 +9,6 @@
 pub mod covers;
 pub mod ground;
 pub mod laws;
+pub mod matching_laws;
 pub mod path;
 pub mod within;

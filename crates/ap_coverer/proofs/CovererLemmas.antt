@@ -29,8 +29,8 @@ use Rattle.ap_complete.specs.NumberedProofs.{IsAmong}
 use Rattle.ap_complete.specs.Restriction.{KeepsRestriction}
 use Rattle.ap_cover.specs.Ground.{ground_terms, is_empty, is_ground, is_ground_answer, is_ground_derivation, is_ground_term}
 use Rattle.ap_cover.proofs.CoverLemmas.{found, low_ground, path_mapped, typed, types, valid}
-use Rattle.ap_covering.specs.StatementsOnMatching.{matched_with}
-use Rattle.ap_covering.proofs.MatchedLemmas.{matched_cover}
+use Rattle.ap_cover.specs.StatementsOnMatching.{matched_with}
+use Rattle.ap_cover.proofs.MatchedLemmas.{matched_cover}
 use Rattle.ap_defs.specs.Groundings.{Grounding, grounded}
 use Rattle.ap_coverer.specs.Followed.{Covers, CoversPath, IsEnd, by_answer, by_stuck}
 use Rattle.ap_clearing.specs.Clearing.{Clears, in_the_way, used_names}

@@ -16,11 +16,11 @@ use Rattle.ap_defs.specs.Terms.{GroundTerm, NominalTerm, term_of}
 use Rattle.ap_defs.specs.Types.{NominalConstructor, NominalType}
 use Rattle.ap_defs.specs.Typing.{embedded}
 use Rattle.ap_complete.specs.Coverings.{replace_in_cond}
-use Rattle.ap_covering.specs.StatementsOnMatching.{matched_with}
+use Rattle.ap_cover.specs.StatementsOnMatching.{matched_with}
 use Rattle.ap_theory.proofs.BooleanLemmas.{and_both}
 use Rattle.ap_theory.proofs.PermutationLemmas.{not_name}
-use Rattle.ap_pick.specs.StatementsOnPicks.{EachName, IsNewName}
-use Rattle.ap_pick.proofs.PickLemmas.{each_name}
+use Rattle.ap_types.specs.StatementsOnPicks.{EachName, IsNewName}
+use Rattle.ap_types.proofs.PickLemmas.{each_name}
 use Rattle.ap_property.specs.Stated.{given, picks_from}
 use Rattle.ap_property.specs.StatementsOnProperties.{HasTypedVars}
 use Rattle.ap_property.proofs.PickedLemmas.{fresh_apart, given_names, picks_give, picks_made}

@@ -3,7 +3,7 @@ use Rattle.std.proofs.Common.{◌≡◌, ◌∙◌, ℕ, Bool, true, false, List
 use Rattle.std.proofs.lemmas.List.{reverse-append}
 use Rattle.std.specs.Prelude.{if◌then◌else◌}
 use Rattle.ap_cover.specs.Ground.{ground_terms, is_ground_term}
-use Rattle.ap_covering.specs.Matched.{Pairs, given_by, matched, matched_each}
+use Rattle.ap_cover.specs.Matched.{Pairs, given_by, matched, matched_each}
 use Rattle.ap_defs.specs.declared.terms.Name.{Name}
 use Rattle.ap_defs.specs.declared.terms.Swap.{Swap}
 use Rattle.ap_defs.specs.declared.terms.Var.{Var}

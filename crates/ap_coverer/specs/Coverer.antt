@@ -17,7 +17,7 @@ use Rattle.ap_checks.specs.Checks.{verdict_of, yes}
 use Rattle.ap_complete.specs.Coverings.{LeavesNames}
 use Rattle.ap_complete.specs.NumberedProofs.{IsAmong}
 use Rattle.ap_cover.specs.Ground.{ground_terms}
-use Rattle.ap_covering.specs.StatementsOnMatching.{GivesInstance}
+use Rattle.ap_cover.specs.StatementsOnMatching.{GivesInstance}
 use Rattle.ap_clearing.specs.Clearing.{Clears, in_the_way, used_names}
 use Rattle.ap_coverer.specs.Covering.{AreGivenBy}
 use Rattle.ap_coverer.specs.declared.grounding.Covering.{Covering}

@@ -12,7 +12,7 @@ use Rattle.ap_defs.specs.Terms.{GroundTerm, NominalTerm, term_of}
 use Rattle.ap_defs.specs.Types.{NominalConstructor, NominalType}
 use Rattle.ap_defs.specs.Typing.{embedded}
 use Rattle.ap_complete.specs.Coverings.{replace_in_cond}
-use Rattle.ap_covering.specs.StatementsOnMatching.{matched_with}
+use Rattle.ap_cover.specs.StatementsOnMatching.{matched_with}
 use Rattle.ap_ground.specs.TypedGroundings.{GivesTypes}
 use Rattle.ap_instance.specs.Tables.{term_beside}
 use Rattle.ap_instance.specs.declared.picks.Picks.{Picks}

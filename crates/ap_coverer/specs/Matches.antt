@@ -8,7 +8,7 @@ use Rattle.ap_defs.specs.Renaming.{replace_names}
 use Rattle.ap_defs.specs.Terms as terms
 use Rattle.ap_defs.specs.Terms.{GroundTerm, NominalTerm, act_ground}
 use Rattle.ap_defs.specs.Typing.{embedded}
-use Rattle.ap_covering.specs.Matched.{Pairs, given_by, matched}
+use Rattle.ap_cover.specs.Matched.{Pairs, given_by, matched}
 use Rattle.ap_instance.specs.Tables.{term_beside}
 use Rattle.ap_instance.specs.declared.picks.Picks.{Picks}
 

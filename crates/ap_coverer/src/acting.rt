@@ -3,10 +3,10 @@
 ghost use Rattle.std.specs.Prelude.{◌≡◌, IfOk};
 ghost use Rattle.ap_defs.specs.Terms.{act_term, term_of};
 
-use ap_defs::lists::List;
+use ap_defs::lists::Swaps;
 use ap_defs::memory::Memory;
 use ap_defs::spines::{TermLayer, close_term};
-use ap_defs::terms::{Swap, Term};
+use ap_defs::terms::{Name, Swap, Term};
 use ap_perm::joining::joined;
 use ap_perm::swappings::image;
 use std::alloc::Global;
@@ -24,7 +24,8 @@ pub(crate) fn moved(alloc: Global, swaps: &[Swap], term: &Term) -> Result<Term, 
             Term::Name(a) => return close_term(alloc, layers, Term::Name(image(swaps, *a))),
             Term::Susp(more, x) => {
                 let all = joined(alloc, swaps, more.items())?;
-                return close_term(alloc, layers, Term::Susp(List::of(all), *x));
+                let waiting = Swaps::of(alloc, all)?;
+                return close_term(alloc, layers, Term::Susp(waiting, *x));
             }
             Term::Pair(left, right) => {
                 layers.push(TermLayer::Left(moved(alloc, swaps, left)?))?;
@@ -34,8 +35,12 @@ pub(crate) fn moved(alloc: Global, swaps: &[Swap], term: &Term) -> Result<Term, 
                 layers.push(TermLayer::App(*f))?;
                 rest = argument;
             }
-            Term::Abs(a, body) => {
-                layers.push(TermLayer::Abs(image(swaps, *a)))?;
+            Term::Abs(sort, num, body) => {
+                let a = Name {
+                    sort: *sort,
+                    num: *num,
+                };
+                layers.push(TermLayer::Abs(image(swaps, a)))?;
                 rest = body;
             }
         }

@@ -3,7 +3,7 @@
 ghost use Rattle.std.specs.Prelude.{◌≡◌, ◌∷◌, [], ◌++◌, IfOk, OnOk, length, map, true};
 ghost use Rattle.std.specs.List.{list_all};
 ghost use Rattle.ap_cover.specs.Ground.{ground_terms, is_ground_term};
-ghost use Rattle.ap_covering.specs.Matched.{matched_each};
+ghost use Rattle.ap_cover.specs.Matched.{matched_each};
 ghost use Rattle.ap_defs.specs.Permutations.{act_name, inverse, swap_of};
 ghost use Rattle.ap_defs.specs.Renaming.{replace_names, replace_swap};
 ghost use Rattle.ap_defs.specs.Terms.{act_ground, susp, term_of};
@@ -120,8 +120,16 @@ fn match_term(
                 rest = part;
                 there = argument;
             }
-            (Term::Abs(a, body), Term::Abs(b, inside)) => {
-                go_below(swaps, *a, *b, &mut inner)?;
+            (Term::Abs(sort, num, body), Term::Abs(other_sort, other_num, inside)) => {
+                let a = Name {
+                    sort: *sort,
+                    num: *num,
+                };
+                let b = Name {
+                    sort: *other_sort,
+                    num: *other_num,
+                };
+                go_below(swaps, a, b, &mut inner)?;
                 rest = body;
                 there = inside;
             }

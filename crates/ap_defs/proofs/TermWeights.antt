@@ -20,7 +20,7 @@ size_some (code.Name a) = let h = deep-Name a in omega (arith, h)
 size_some (code.Susp p x) = let h = deep-Susp p x in omega (arith, h)
 size_some (code.Pair' p t q u) = let h = deep-Pair' p t q u in omega (arith, h)
 size_some (code.App' f p t) = let h = deep-App' f p t in omega (arith, h)
-size_some (code.Abs' a p t) = let h = deep-Abs' a p t in omega (arith, h)
+size_some (code.Abs' s n p t) = let h = deep-Abs' s n p t in omega (arith, h)
 
 leaf_size : (t : code.Term) → weight (term_of t) ≡ 1 → size-Term t ≡ 1
 leaf_size code.Unit e = deep-Unit
@@ -28,7 +28,7 @@ leaf_size (code.Name a) e = deep-Name a
 leaf_size (code.Susp p x) e = deep-Susp p x
 leaf_size (code.Pair' p t q u) e = let h = weight_some (term_of t) in absurd (omega (arith, h, e))
 leaf_size (code.App' f p t) e = let h = weight_some (term_of t) in absurd (omega (arith, h, e))
-leaf_size (code.Abs' a p t) e = let h = weight_some (term_of t) in absurd (omega (arith, h, e))
+leaf_size (code.Abs' s n p t) e = let h = weight_some (term_of t) in absurd (omega (arith, h, e))
 
 parts_size : (t : code.Term) → 1 < weight (term_of t) → 1 < size-Term t
 parts_size code.Unit l = absurd (omega (arith, l))
@@ -36,7 +36,7 @@ parts_size (code.Name a) l = absurd (omega (arith, l))
 parts_size (code.Susp p x) l = absurd (omega (arith, l))
 parts_size (code.Pair' p t q u) l = let h = deep-Pair' p t q u in let s = size_some t in omega (arith, h, s)
 parts_size (code.App' f p t) l = let h = deep-App' f p t in let s = size_some t in omega (arith, h, s)
-parts_size (code.Abs' a p t) l = let h = deep-Abs' a p t in let s = size_some t in omega (arith, h, s)
+parts_size (code.Abs' s n p t) l = let h = deep-Abs' s n p t in let k = size_some t in omega (arith, h, k)
 
 -- one without parts has fewer levels than one that weighs as much as a pair
 pub leaf_lighter : (l t : code.Term) (u v : NominalTerm) → weight (term_of l) ≡ 1 → weight (nodes.pair u v) ≤ weight (term_of t) → size-Term l < size-Term t

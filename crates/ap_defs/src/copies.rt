@@ -9,10 +9,10 @@ ghost use Rattle.ap_defs.specs.Walks.{type_in_frames, type_made, type_work, type
 ghost use Rattle.ap_defs.specs.Weights.{type_weight};
 
 use crate::goals::Kind;
-use crate::lists::List;
+use crate::lists::Swaps;
 use crate::memory::Memory;
 use crate::spines::{TermLayer, TypeLayer};
-use crate::terms::{Term, Ty};
+use crate::terms::{Name, Term, Ty};
 use crate::walks::{TermFrame, TermPart, TypeFrame, TypePart, leave_term, leave_type};
 use std::alloc::Global;
 
@@ -32,7 +32,7 @@ fn copy_part<'a>(
         Term::Name(a) => Ok(TermPart::Made(Term::Name(*a))),
         Term::Susp(swaps, x) => {
             let swaps = swaps.items().to_vec(alloc)?;
-            Ok(TermPart::Made(Term::Susp(List::of(swaps), *x)))
+            Ok(TermPart::Made(Term::Susp(Swaps::of(alloc, swaps)?, *x)))
         }
         Term::Pair(left, right) => {
             frames.push(TermFrame::Before(right))?;
@@ -42,8 +42,12 @@ fn copy_part<'a>(
             frames.push(TermFrame::In(TermLayer::App(*f)))?;
             Ok(TermPart::Left(argument))
         }
-        Term::Abs(a, body) => {
-            frames.push(TermFrame::In(TermLayer::Abs(*a)))?;
+        Term::Abs(sort, num, body) => {
+            let a = Name {
+                sort: *sort,
+                num: *num,
+            };
+            frames.push(TermFrame::In(TermLayer::Abs(a)))?;
             Ok(TermPart::Left(body))
         }
     }

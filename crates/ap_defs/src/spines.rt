@@ -52,7 +52,7 @@ pub(crate) fn term_in(alloc: Global, layer: TermLayer, t: Term) -> Result<Term, 
             Ok(Term::Pair(left, Box::new(alloc, t)?))
         }
         TermLayer::App(f) => Ok(Term::App(f, Box::new(alloc, t)?)),
-        TermLayer::Abs(a) => Ok(Term::Abs(a, Box::new(alloc, t)?)),
+        TermLayer::Abs(a) => Ok(Term::Abs(a.sort, a.num, Box::new(alloc, t)?)),
     }
 }
 

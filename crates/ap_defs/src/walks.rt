@@ -101,7 +101,7 @@ fn add_parts_of<'a>(waiting: &mut Vec<&'a Term>, t: &'a Term) -> Result<(), Memo
             waiting.push(left)?;
         }
         Term::App(_, argument) => waiting.push(argument)?,
-        Term::Abs(_, body) => waiting.push(body)?,
+        Term::Abs(_, _, body) => waiting.push(body)?,
     }
     Ok(())
 }

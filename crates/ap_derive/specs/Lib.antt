@@ -3,3 +3,7 @@ pub mod Closing
 pub mod Solved
 pub mod Derived
 pub mod Laws
+pub mod Uses
+pub mod Tables
+pub mod Waiting
+pub mod CountLaws

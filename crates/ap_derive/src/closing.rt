@@ -17,7 +17,7 @@ ghost use Rattle.ap_store.specs.Views.{raw_bound};
 ghost use Rattle.ap_derive.specs.declared.closing.Closing.{Closing};
 ghost use Rattle.ap_derive.specs.Closing.{PartGoesOn, PartGoesOut, IsClosing, IsPartForVar, IsRoundWithin, closing_terms, kept_line};
 
-use ap_defs::lists::List;
+use ap_defs::lists::Swaps;
 use ap_defs::memory::Memory;
 use ap_defs::terms::{Name, Swap, Var};
 use ap_perm::closures::{Closure, Lent, Opened};
@@ -114,8 +114,8 @@ fn close_unbound<'a>(
     ensures { IfOk result (IsPartForVar store.now closing.old closing.new (susp swaps.items x)) }
 {
     let ascending = canonical_of(alloc, swaps)?;
-    let boxed = Box::new(alloc, List::of(ascending))?;
-    let line = add_line(closing, Entry::Susp(boxed, x))?;
+    let waiting = Swaps::of(alloc, ascending)?;
+    let line = add_line(closing, Entry::Susp(waiting, x))?;
     Ok(Part::Made(line))
 }
 

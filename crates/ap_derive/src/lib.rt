@@ -6,10 +6,13 @@
 //! end in a table, each of them once; `assembling` then makes the derivation of the nodes, from the
 //! last to the first. Neither the path nor the depth of the derivation lies on the machine's call
 //! stack.
+//!
+//! `counting` counts how often derivations use each clause.
 #![tactic(auto)]
 
 pub mod assembling;
 mod closing;
+pub mod counting;
 pub mod derivations;
 pub mod laws;
 pub mod nodes;

@@ -1,14 +1,14 @@
 //! Whether a search is over.
 
 ghost use Rattle.std.specs.Prelude.{◌≡◌, ℕ, true, [], List as list};
-ghost use Rattle.ap_lock.specs.Seats.{book_id, book_limit, SameSeat};
+ghost use Rattle.ap_tools.specs.Seats.{book_id, book_limit, SameSeat};
 ghost use Rattle.ap_tools.specs.Planned.{OwnPlanned, IsOver};
 ghost use Rattle.ap_tools.specs.Order.{IsSole};
 ghost use Rattle.ap_tools.specs.Accounts.{EndsJust};
 
 use ap_defs::paths::Progress;
-use ap_lock::{Seat, SharedBook};
 use ap_paths::Tree;
+use ap_tools::{Seat, SharedBook};
 use std::sync::Wait;
 
 /// Whether the search is over.

@@ -38,8 +38,12 @@ fn refutes(a: Name, t: &Term) -> bool
                 rest = right;
             }
             Term::App(_, argument) => rest = argument,
-            Term::Abs(b, body) => {
-                if a == *b {
+            Term::Abs(sort, num, body) => {
+                let b = Name {
+                    sort: *sort,
+                    num: *num,
+                };
+                if a == b {
                     return false;
                 }
                 rest = body;
@@ -74,8 +78,12 @@ fn add_left(a: Name, t: &Term, facts: &mut Vec<Fact>) -> Result<(), Memory>
                 rest = right;
             }
             Term::App(_, argument) => rest = argument,
-            Term::Abs(b, body) => {
-                if a == *b {
+            Term::Abs(sort, num, body) => {
+                let b = Name {
+                    sort: *sort,
+                    num: *num,
+                };
+                if a == b {
                     return Ok(());
                 }
                 rest = body;

@@ -18,7 +18,7 @@ use Rattle.ap_defs.specs.Typing.{IsApplication, Want}
 use Rattle.ap_program.specs.NameRestriction.{IsRestricted, sum_of_lengths}
 use Rattle.ap_program.specs.RawTyping.{HasTermType, IsTypedTerm}
 use Rattle.ap_program.specs.Typed.{AreArguments, AreTypedClauses, AreTypedFrom, predicate_at, term_form}
-use Rattle.ap_lanes.specs.Matching.{key_agrees}
+use Rattle.ap_index.specs.Matching.{key_agrees}
 use Rattle.ap_index.specs.Keys.{AreNarrow, AreNarrowLists, keys_of}
 
 constructor_below : (cs : List NominalConstructor) (g : ℕ) (typed : Want → Type 0) (d : ℕ) → IsApplication typed (constructor_in cs (suc (suc g))) d → g < length cs

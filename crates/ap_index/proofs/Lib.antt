@@ -1,3 +1,4 @@
 pub mod KeyLemmas
 pub mod PlaceLemmas
 pub mod Shared
+pub mod LaneLemmas

@@ -3,8 +3,8 @@ use Rattle.std.proofs.Common.{◌≡◌, ℕ, zero, suc, ◌+◌, ◌-◌, ◌<�
 use Rattle.std.proofs.lemmas.List.{drop-drop, drop-take, drop_all, length-drop}
 use Rattle.std.specs.List.{prefix_len}
 use Rattle.std.specs.Prelude.{◌==◌}
-use Rattle.ap_lanes.proofs.LaneLemmas.{run_ends, run_goes_on}
-use Rattle.ap_lanes.specs.Matching.{key_agrees}
+use Rattle.ap_index.proofs.LaneLemmas.{run_ends, run_goes_on}
+use Rattle.ap_index.specs.Matching.{key_agrees}
 use Rattle.ap_theory.proofs.TermLemmas.{number_same}
 use Rattle.ap_index.specs.Places.{AreKeysWithin, bucket}
 

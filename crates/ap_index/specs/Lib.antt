@@ -1,3 +1,4 @@
 pub mod Keyed
 pub mod Keys
 pub mod Places
+pub mod Matching

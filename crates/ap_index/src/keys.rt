@@ -22,7 +22,7 @@ fn key_of_term(t: &Term) -> u32
         Term::Unit => 1,
         Term::Name(_) => 2,
         Term::Pair(_, _) => 3,
-        Term::Abs(_, _) => 4,
+        Term::Abs(_, _, _) => 4,
         Term::App(f, _) => 5 + *f,
     }
 }

@@ -3,10 +3,10 @@
 ghost use Rattle.std.specs.Prelude.{◌≡◌, ◌+◌, ◌<◌, ◌≤◌, ◌^◌, IfOk, drop, length, not};
 ghost use Rattle.std.specs.List.{prefix_len};
 ghost use Rattle.ap_index.specs.Places.{AreKeysWithin, bucket};
-ghost use Rattle.ap_lanes.specs.Matching.{key_agrees};
+ghost use Rattle.ap_index.specs.Matching.{key_agrees};
 
+use crate::matching::next_match;
 use ap_defs::memory::Memory;
-use ap_lanes::matching::next_match;
 use std::alloc::Global;
 
 /// The bucket of a key among so many and that of the wild key.

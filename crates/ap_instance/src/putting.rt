@@ -17,7 +17,7 @@ use crate::parts::{conclusion_of, copy_locals};
 use crate::stating::Stated;
 use ap_defs::copies::copy_term;
 use ap_defs::goals::{Goal, Kind, Local, Query};
-use ap_defs::lists::{List, Text};
+use ap_defs::lists::{List, Swaps, Text};
 use ap_defs::memory::Memory;
 use ap_defs::spines::{GoalLayer, close_goal};
 use ap_defs::terms::{Term, Var};
@@ -29,8 +29,8 @@ fn equation(alloc: Global, x: Var, term: &Term) -> Result<Goal<Term>, Memory>
     ensures { IfOk result (λ g. goal_of g ≡ goals.equal (susp [] x) (term_of term.now)) }
 {
     let copied = copy_term(alloc, term)?;
-    let swaps = Vec::new(alloc);
-    Ok(Goal::Equal(Term::Susp(List::of(swaps), x), copied))
+    let swaps = Swaps::none(alloc)?;
+    Ok(Goal::Equal(Term::Susp(swaps, x), copied))
 }
 
 /// Layers: each variable is equal to the term beside it, and what is inside.

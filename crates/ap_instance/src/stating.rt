@@ -9,7 +9,7 @@ ghost use Rattle.ap_defs.specs.Walks.{term_in_frames, term_made, term_work, term
 ghost use Rattle.ap_ground.specs.TypedGroundings.{HaveInhabitants};
 ghost use Rattle.ap_instance.specs.Tables.{settled_term};
 ghost use Rattle.ap_instance.specs.Views.{IsStated};
-ghost use Rattle.ap_pick.specs.Pickers.{IsPicker};
+ghost use Rattle.ap_types.specs.Pickers.{IsPicker};
 ghost use Rattle.ap_property.specs.Stated.{stated};
 
 use crate::names::{Names, names_of_answer};
@@ -18,9 +18,9 @@ use ap_defs::goals::Local;
 use ap_defs::memory::Memory;
 use ap_defs::outcomes::Answer;
 use ap_defs::spines::TermLayer;
-use ap_defs::terms::Term;
+use ap_defs::terms::{Name, Term};
 use ap_defs::walks::{TermFrame, TermPart, leave_term};
-use ap_pick::Picker;
+use ap_types::Picker;
 use std::alloc::Global;
 
 /// A ground term for each free variable of a query, and the sorts of their names that are none of the query's,
@@ -59,8 +59,12 @@ fn stated_part<'a>(
             frames.push(TermFrame::In(TermLayer::App(*f)))?;
             Ok(TermPart::Left(argument))
         }
-        Term::Abs(a, body) => {
-            let settled = names.settled(*a)?;
+        Term::Abs(sort, num, body) => {
+            let a = Name {
+                sort: *sort,
+                num: *num,
+            };
+            let settled = names.settled(a)?;
             frames.push(TermFrame::In(TermLayer::Abs(settled)))?;
             Ok(TermPart::Left(body))
         }

@@ -128,7 +128,13 @@ fn layer_of_tree(t: &Term) -> Layer<'_>
         Term::Susp(swaps, x) => Layer::Susp(swaps.items(), *x),
         Term::Pair(left, right) => Layer::Pair(Cited::Tree(left), Cited::Tree(right)),
         Term::App(f, part) => Layer::App(*f, Cited::Tree(part)),
-        Term::Abs(a, part) => Layer::Abs(*a, Cited::Tree(part)),
+        Term::Abs(sort, num, part) => {
+            let a = Name {
+                sort: *sort,
+                num: *num,
+            };
+            Layer::Abs(a, Cited::Tree(part))
+        }
     }
 }
 

@@ -169,8 +169,12 @@ fn head_within<'a>(alloc: Global, scope: Scope<'a>, t: &'a Term) -> Result<Head<
             Ok(Head::Pair(left, Closure::Within(scope, right)))
         }
         Term::App(f, argument) => Ok(Head::App(*f, Closure::Within(scope, argument))),
-        Term::Abs(a, body) => {
-            let a = name_in(scope.standing, *a);
+        Term::Abs(sort, num, body) => {
+            let a = Name {
+                sort: *sort,
+                num: *num,
+            };
+            let a = name_in(scope.standing, a);
             Ok(Head::Abs(a, Closure::Within(scope, body)))
         }
     }

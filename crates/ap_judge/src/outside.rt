@@ -10,7 +10,7 @@ ghost use Rattle.ap_judge.specs.Outsides.{IsNextPart};
 ghost use Rattle.ap_judge.specs.Closures.{head_term, scoped_term};
 
 use crate::closures::{Closure, Head, head_at};
-use ap_defs::lists::List;
+use ap_defs::lists::Swaps;
 use ap_defs::memory::Memory;
 use ap_defs::spines::{TermLayer, close_term};
 use ap_defs::terms::Term;
@@ -96,7 +96,10 @@ impl<'a> Outside<'a> {
         match part {
             Head::Unit => self.close(alloc, Term::Unit),
             Head::Name(a) => self.close(alloc, Term::Name(a)),
-            Head::Susp(swaps, x) => self.close(alloc, Term::Susp(List::of(swaps), x)),
+            Head::Susp(swaps, x) => {
+                let waiting = Swaps::of(alloc, swaps)?;
+                self.close(alloc, Term::Susp(waiting, x))
+            }
             Head::Pair(left, right) => {
                 self.halve(alloc, right)?;
                 Ok(Next::Part(left))

@@ -18,7 +18,7 @@ use crate::unbound::unbound_of;
 use crate::vars::{add_vars_of_conds, add_vars_of_terms, make_ascending};
 use ap_defs::copies::copy_type;
 use ap_defs::goals::{Kind, Local};
-use ap_defs::lists::List;
+use ap_defs::lists::{List, Swaps};
 use ap_defs::memory::Memory;
 use ap_defs::outcomes::Answer;
 use ap_defs::terms::{Cond, Term, Ty, Var};
@@ -31,7 +31,7 @@ pub fn closed_var<'a>(alloc: Global, store: &Store<'a>, x: Var) -> Result<Term, 
     ensures { IfOk result (λ t. term_of t ≡ closed_term (state_in store.now) (susp [] x)) }
 {
     match store.binding(x) {
-        None => Ok(Term::Susp(List::of(Vec::new(alloc)), x)),
+        None => Ok(Term::Susp(Swaps::none(alloc)?, x)),
         Some(bound) => closed_from(alloc, store, bound),
     }
 }

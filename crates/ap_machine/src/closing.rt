@@ -12,7 +12,7 @@ ghost use Rattle.ap_store.specs.declared.store.Store.{Store};
 ghost use Rattle.ap_machine.specs.declared.closing.Part.TheVariants as parts;
 ghost use Rattle.ap_machine.specs.Closed.{closed_part, closed_round, closed_within, part_work, round_work, rounds_work};
 
-use ap_defs::lists::List;
+use ap_defs::lists::Swaps;
 use ap_defs::memory::Memory;
 use ap_defs::terms::{Name, Swap, Term};
 use ap_perm::closures::{Closure, Lent, Opened};
@@ -62,7 +62,7 @@ fn headed<'a>(store: &Store<'a>, c: Closure<'a>) -> Result<Closure<'a>, Memory>
         Term::Name(_) => Ok(c),
         Term::Pair(_, _) => Ok(c),
         Term::App(_, _) => Ok(c),
-        Term::Abs(_, _) => Ok(c),
+        Term::Abs(_, _, _) => Ok(c),
     }
 }
 
@@ -130,7 +130,8 @@ fn go_in<'a>(
         Opened::Name(a) => Ok(Part::Made(Term::Name(a))),
         Opened::Susp(swaps, x) => {
             let swaps = canonical_of(alloc, swaps)?;
-            Ok(Part::Made(Term::Susp(List::of(swaps), x)))
+            let waiting = Swaps::of(alloc, swaps)?;
+            Ok(Part::Made(Term::Susp(waiting, x)))
         }
         Opened::Pair(left, right) => {
             keep_right(rounds, right)?;
@@ -182,7 +183,10 @@ fn go_out<'a>(
             Ok(Part::Left(right))
         }
         Round::App(f) => Ok(Part::Made(Term::App(f, Box::new(alloc, made)?))),
-        Round::Abs(a) => Ok(Part::Made(Term::Abs(a, Box::new(alloc, made)?))),
+        Round::Abs(a) => {
+            let body = Box::new(alloc, made)?;
+            Ok(Part::Made(Term::Abs(a.sort, a.num, body)))
+        }
     }
 }
 

@@ -92,7 +92,7 @@ pub fn push_vars_of(vars: &mut Vec<Var>, base: u64, t: &Term) -> Result<(), Memo
                 rest = right;
             }
             Term::App(_, argument) => rest = argument,
-            Term::Abs(_, body) => rest = body,
+            Term::Abs(_, _, body) => rest = body,
             Term::Susp(_, x) => {
                 vars.push(Var { num: base + x.num })?;
                 return Ok(());

@@ -1,8 +1,8 @@
 //! Bundles of the folder `shown`, and what is shown of them: as plain text, and of some as LaTeX and as HTML too.
 
 use ap_defs::limits::SIZE_LIMIT;
-use ap_pages::pages::Format;
 use ap_show::show_bytes;
+use ap_steps::pages::Format;
 use std::fs::Files;
 use std::io::{ErrorKind, Write};
 use std::{fs, io};

@@ -8,3 +8,9 @@ pub mod PermLemmas
 pub mod LookupLemmas
 pub mod ClosureLemmas
 pub mod VisitLemmas
+pub mod SetLemmas
+pub mod SortLemmas
+pub mod StepLemmas
+pub mod RenamedLemmas
+pub mod PendingLemmas
+pub mod DifferingLemmas

@@ -11,7 +11,7 @@ use Rattle.ap_theory.proofs.BooleanLemmas.{and_false, and_left, or_false, or_and
 use Rattle.ap_theory.proofs.DisagreementLemmas.{has_add, has_disagreement, has_front, has_name_has, same_names}
 use Rattle.ap_theory.proofs.OrderedLemmas.{has}
 use Rattle.ap_theory.proofs.PermutationLemmas.{act-append, act_sorts, name_eq_itself, name_eq_same, name_tells}
-use Rattle.ap_lanes.specs.Differing.{differing_places}
+use Rattle.ap_perm.specs.Differing.{differing_places}
 use Rattle.ap_perm.specs.Flat.{image_num, kept, moved_by, moved_list, united}
 use Rattle.ap_perm.specs.declared.flat.Moved.{Moved}
 use Rattle.ap_perm.proofs.FlatLemmas.{Ascending, IsAbove, above_name, add_ascends, after_apart, as_many, before_apart, by_name, disagreement_ascends, fixed, moved_ascend, name_there, neither_before, not_after}

@@ -6,3 +6,5 @@ pub mod Lookups
 pub mod StatementsOnLookups
 pub mod BelowProps
 pub mod Closures
+pub mod Reduction
+pub mod Differing

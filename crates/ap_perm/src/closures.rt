@@ -134,8 +134,12 @@ impl<'a> Closure<'a> {
                     term: argument,
                 },
             )),
-            Term::Abs(a, body) => {
-                let binder = image(&swaps, numbered(base, *a));
+            Term::Abs(sort, num, body) => {
+                let a = Name {
+                    sort: *sort,
+                    num: *num,
+                };
+                let binder = image(&swaps, numbered(base, a));
                 Ok(Opened::Abs(
                     binder,
                     Closure {

@@ -8,15 +8,15 @@ ghost use Rattle.std.specs.BTreeMap as tree;
 ghost use Rattle.ap_defs.specs.Canonical.{moved_names};
 ghost use Rattle.ap_defs.specs.Permutations.{act_name, inverse, name_before};
 ghost use Rattle.ap_defs.specs.declared.terms.Swap.{Swap};
-ghost use Rattle.ap_lanes.specs.Differing.{differing_places};
+ghost use Rattle.ap_perm.specs.Differing.{differing_places};
 ghost use Rattle.ap_perm.specs.Flat.{image_num, kept, moved_by, moved_list, united};
 ghost use Rattle.ap_perm.specs.Images.{AreImages, key_cmp};
 
+use crate::differing::differ;
 use crate::images::{Images, image_in};
 use crate::swappings::is_same;
 use ap_defs::memory::Memory;
 use ap_defs::terms::Name;
-use ap_lanes::differing::differ;
 use smallvec::SmallVec;
 use std::alloc::Global;
 use std::collections::BTreeMap;

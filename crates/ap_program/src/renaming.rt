@@ -6,7 +6,7 @@ ghost use Rattle.ap_defs.specs.Renaming.{AreBelow, AreSwapsBelow, IsBelow, IsGoa
 ghost use Rattle.ap_defs.specs.Terms.{term_of};
 
 use ap_defs::goals::{Clause, Fresh, Goal};
-use ap_defs::lists::List;
+use ap_defs::lists::{List, Swaps};
 use ap_defs::memory::Memory;
 use ap_defs::terms::{Name, Swap, Term, Var};
 use std::alloc::Global;
@@ -101,13 +101,19 @@ pub fn rename_term(alloc: Global, base: u64, t: &Term) -> Result<Term, Memory>
             let argument = Box::new(alloc, rename_term(alloc, base, argument)?)?;
             Ok(Term::App(*f, argument))
         }
-        Term::Abs(a, body) => {
+        Term::Abs(sort, num, body) => {
+            let a = Name {
+                sort: *sort,
+                num: *num,
+            };
             let body = Box::new(alloc, rename_term(alloc, base, body)?)?;
-            Ok(Term::Abs(rename_name(base, *a), body))
+            let renamed = rename_name(base, a);
+            Ok(Term::Abs(renamed.sort, renamed.num, body))
         }
         Term::Susp(swaps, x) => {
             let swaps = rename_swaps(alloc, base, swaps.items())?;
-            Ok(Term::Susp(List::of(swaps), rename_var(base, *x)))
+            let waiting = Swaps::of(alloc, swaps)?;
+            Ok(Term::Susp(waiting, rename_var(base, *x)))
         }
     }
 }

@@ -10,10 +10,10 @@ ghost use Rattle.ap_program.specs.CarryingOut.{carried_out, map_goal};
 ghost use Rattle.ap_restrict.specs.Ways.{lent_terms, carried_round, carried_within};
 
 use ap_defs::goals::Goal;
-use ap_defs::lists::List;
+use ap_defs::lists::{List, Swaps};
 use ap_defs::memory::Memory;
 use ap_defs::spines::{GoalLayer, close_goal};
-use ap_defs::terms::{Id, Name, Raw, Swap, SwapPlaces, Term, Under};
+use ap_defs::terms::{Id, Name, Raw, Swap, SwapPlaces, Term, Under, Var};
 use ap_perm::swappings::image;
 use std::alloc::Global;
 
@@ -50,7 +50,7 @@ fn carry_under(alloc: Global, swaps: &[Swap], t: &Raw) -> Result<Term, Memory>
     match t {
         Raw::Unit => Ok(Term::Unit),
         Raw::Name(a) => Ok(Term::Name(image(swaps, *a))),
-        Raw::Var(x) => Ok(Term::Susp(List::of(swaps.to_vec(alloc)?), *x)),
+        Raw::Var(x) => waiting(alloc, swaps, *x),
         Raw::App(f, argument) => {
             if *f == 1 {
                 return carry_spine(alloc, swaps, t);
@@ -70,7 +70,7 @@ fn carry_under(alloc: Global, swaps: &[Swap], t: &Raw) -> Result<Term, Memory>
                     return carry_spine(alloc, swaps, t);
                 }
                 let body = carry_under(alloc, swaps, body)?;
-                Ok(Term::Abs(image(swaps, *a), Box::new(alloc, body)?))
+                abstraction(alloc, image(swaps, *a), body)
             }
             _ => carry_spine(alloc, swaps, t),
         },
@@ -83,6 +83,21 @@ fn term_pair(alloc: Global, left: Term, right: Term) -> Result<Term, Memory>
 {
     let left = Box::new(alloc, left)?;
     Ok(Term::Pair(left, Box::new(alloc, right)?))
+}
+
+/// An abstraction.
+fn abstraction(alloc: Global, a: Name, body: Term) -> Result<Term, Memory>
+    ensures { IfOk result (λ t. term_of t ≡ nominal.abs a (term_of body)) }
+{
+    Ok(Term::Abs(a.sort, a.num, Box::new(alloc, body)?))
+}
+
+/// A variable on which swappings wait.
+fn waiting(alloc: Global, swaps: &[Swap], x: Var) -> Result<Term, Memory>
+    ensures { IfOk result (λ t. term_of t ≡ nominal.susp swaps.now x) }
+{
+    let swaps = Swaps::of(alloc, swaps.to_vec(alloc)?)?;
+    Ok(Term::Susp(swaps, x))
 }
 
 /// A pair of terms with their swappings carried out, under further ones.
@@ -130,9 +145,7 @@ fn carry_round(alloc: Global, swaps: &[Swap], part: &Raw, last: Term) -> Result<
         }
         Raw::App(f, _) => Ok(Term::App(*f, Box::new(alloc, last)?)),
         Raw::Under(under) => match &**under {
-            Under::Abs(Id::Name(a), _) => {
-                Ok(Term::Abs(image(swaps, *a), Box::new(alloc, last)?))
-            }
+            Under::Abs(Id::Name(a), _) => abstraction(alloc, image(swaps, *a), last),
             _ => Ok(last),
         },
         Raw::Unit | Raw::Name(_) | Raw::Var(_) => Ok(last),
@@ -174,8 +187,8 @@ fn carry_spine(alloc: Global, swaps: &[Swap], t: &Raw) -> Result<Term, Memory>
                 return carry_within(alloc, swaps, way, Term::Name(image(swaps, *a)));
             }
             Raw::Var(x) => {
-                let waiting = List::of(swaps.to_vec(alloc)?);
-                return carry_within(alloc, swaps, way, Term::Susp(waiting, *x));
+                let last = waiting(alloc, swaps, *x)?;
+                return carry_within(alloc, swaps, way, last);
             }
             Raw::Pair(_, last) => {
                 way.push(rest)?;

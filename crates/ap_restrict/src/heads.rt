@@ -96,8 +96,12 @@ fn is_fresh(facts: &HashSet<Fact>, table: &Holding, locals: &[Local], a: Name, t
                 rest = right;
             }
             Term::App(_, argument) => rest = argument,
-            Term::Abs(b, body) => {
-                if a == *b {
+            Term::Abs(sort, num, body) => {
+                let b = Name {
+                    sort: *sort,
+                    num: *num,
+                };
+                if a == b {
                     return true;
                 }
                 rest = body;

@@ -29,7 +29,7 @@ entry_term ts (entry.Name a) = terms.name a
 entry_term ts (entry.Pair i j) = terms.pair (shared_at ts i) (shared_at ts j)
 entry_term ts (entry.App f i) = terms.app f (shared_at ts i)
 entry_term ts (entry.Abs s n i) = terms.abs (record { sort = s; num = n }) (shared_at ts i)
-entry_term ts (entry.Susp p x) = terms.susp p.value x
+entry_term ts (entry.Susp p x) = terms.susp p x
 
 -- its parts are among so many lines
 abbrev pub IsBehind : ℕ → Entry → Type 0

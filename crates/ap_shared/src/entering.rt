@@ -10,7 +10,7 @@ ghost use Rattle.ap_shared.specs.SharedViews.{shared_terms};
 
 use crate::arena::SharedTerms;
 use crate::lines::Entry;
-use ap_defs::lists::List;
+use ap_defs::lists::Swaps;
 use ap_defs::memory::Memory;
 use ap_defs::terms::Term;
 use std::alloc::Global;
@@ -34,7 +34,7 @@ fn push_steps<'a>(steps: &mut Vec<Step<'a>>, term: &'a Term) -> Result<(), Memor
             steps.push(Step::Enter(right))?;
             steps.push(Step::Enter(left))?;
         }
-        Term::App(_, part) | Term::Abs(_, part) => steps.push(Step::Enter(part))?,
+        Term::App(_, part) | Term::Abs(_, _, part) => steps.push(Step::Enter(part))?,
     }
     Ok(())
 }
@@ -92,15 +92,15 @@ fn entry_of(
             };
             Ok(Some(Entry::App(*constructor, part)))
         }
-        Term::Abs(name, _) => {
+        Term::Abs(sort, num, _) => {
             let Some(part) = first_line(terms, lines) else {
                 return Ok(None);
             };
-            Ok(Some(Entry::Abs(name.sort, name.num, part)))
+            Ok(Some(Entry::Abs(*sort, *num, part)))
         }
         Term::Susp(swaps, var) => {
-            let swaps = List::of(swaps.items().to_vec(alloc)?);
-            Ok(Some(Entry::Susp(Box::new(alloc, swaps)?, *var)))
+            let swaps = Swaps::of(alloc, swaps.items().to_vec(alloc)?)?;
+            Ok(Some(Entry::Susp(swaps, *var)))
         }
     }
 }

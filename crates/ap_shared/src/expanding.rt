@@ -11,7 +11,7 @@ ghost use Rattle.ap_shared.specs.declared.expanding.Task.TheVariants as tasks_of
 
 use crate::arena::SharedTerms;
 use crate::lines::Entry;
-use ap_defs::lists::List;
+use ap_defs::lists::Swaps;
 use ap_defs::memory::Memory;
 use ap_defs::terms::{Name, Term};
 use std::alloc::Global;
@@ -75,7 +75,7 @@ fn push_ready(alloc: Global, entry: &Entry, made: &mut Vec<Term>) -> Result<(), 
         Entry::Unit => made.push(Term::Unit)?,
         Entry::Name(name) => made.push(Term::Name(*name))?,
         Entry::Susp(swaps, var) => {
-            let swaps = List::of(swaps.items().to_vec(alloc)?);
+            let swaps = Swaps::of(alloc, swaps.items().to_vec(alloc)?)?;
             made.push(Term::Susp(swaps, *var))?;
         }
         Entry::Pair(_, _) | Entry::App(_, _) | Entry::Abs(_, _, _) => {}
@@ -121,7 +121,7 @@ fn close_abs(alloc: Global, name: Name, made: &mut Vec<Term>) -> Result<bool, Me
         return Ok(false);
     };
     let part = Box::new(alloc, part)?;
-    made.push(Term::Abs(name, part))?;
+    made.push(Term::Abs(name.sort, name.num, part))?;
     Ok(true)
 }
 

@@ -1,6 +1,6 @@
 -- What is answered for a query, or for a command about it: a report on the loaded text with that query alone.
 use Rattle.std.specs.Prelude.{◌≡◌, ◌<◌, ◌≤◌, ℕ, List, length, codes}
-use Rattle.ap_bundle_prove.specs.Reports.{IsProveReport}
+use Rattle.ap_text_commands.specs.ProveReports.{IsProveReport}
 use Rattle.ap_defs.specs.Limits.{size_limit}
 use Rattle.ap_examine.specs.Reports.{IsExamReport}
 use Rattle.ap_inputs.specs.Questions.{text_with}
@@ -9,7 +9,7 @@ use Rattle.ap_report.specs.declared.report.Report.{Report}
 use Rattle.ap_report.specs.declared.status.Status.TheVariants as status
 use Rattle.ap_report.specs.TextReport.{IsTextReport, run_report}
 use Rattle.ap_shell.specs.declared.session.Settings.{Settings}
-use Rattle.ap_uses.specs.Reports.{IsCountReport}
+use Rattle.ap_text_commands.specs.CountReports.{IsCountReport}
 
 -- what is written for a text that is too large
 abbrev pub too_large : Report

@@ -1,14 +1,13 @@
 //! The reports on the loaded text with a query.
 ghost use Rattle.std.specs.Prelude.{◌≡◌, IfOk};
-ghost use Rattle.ap_bundle_prove.specs.Reports.{IsProveReport};
+ghost use Rattle.ap_text_commands.specs.ProveReports.{IsProveReport};
 ghost use Rattle.ap_examine.specs.Reports.{IsExamReport};
 ghost use Rattle.ap_paths.specs.declared.limits.Limit.TheVariants as limits;
 ghost use Rattle.ap_shell.specs.Answers as spec;
 ghost use Rattle.ap_shell.specs.Answers.{IsReportWithin, IsRunReport};
-ghost use Rattle.ap_uses.specs.Reports.{IsCountReport};
+ghost use Rattle.ap_text_commands.specs.CountReports.{IsCountReport};
 
 use crate::session::Settings;
-use ap_bundle_prove::prove_text;
 use ap_defs::limits::SIZE_LIMIT;
 use ap_defs::lists::List;
 use ap_defs::memory::Memory;
@@ -16,7 +15,7 @@ use ap_examine::examine_text;
 use ap_io::Gate;
 use ap_paths::Limit;
 use ap_report::{Report, Status, report_text};
-use ap_uses::count_text;
+use ap_text_commands::{count_text, prove_text};
 use std::alloc::Global;
 use std::sync::Wait;
 use std::thread::Threads;

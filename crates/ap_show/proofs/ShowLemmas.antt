@@ -3,14 +3,14 @@ use Rattle.std.proofs.Common.{◌≡◌, ℕ, List, [], ◌∷◌, ◌++◌, map
 use Rattle.std.specs.Prelude.{Result, Ok, Err}
 use Rattle.std.proofs.lemmas.List.{append-nil, map-append}
 use Rattle.ap_bundle.specs.Bundles.{NominalBundle, NominalProved, proved_of}
-use Rattle.ap_bundle_check.specs.Reports.{IsReadReport, check_report}
+use Rattle.ap_bundle_commands.specs.CheckReports.{IsReadReport, check_report}
 use Rattle.ap_defs.specs.declared.faults.Fault.{Fault}
 use Rattle.ap_defs.specs.declared.faults.Fault.TheVariants as faults
 use Rattle.ap_defs.specs.declared.outcomes.Proved.{Proved}
 use Rattle.ap_defs.specs.Goals.{NominalProgram}
-use Rattle.ap_pages.specs.declared.pages.Format.{Format}
-use Rattle.ap_pages.specs.declared.steps.Step.{Step}
-use Rattle.ap_pages.specs.Pages.{derivation_text, derivation_texts}
+use Rattle.ap_steps.specs.declared.pages.Format.{Format}
+use Rattle.ap_steps.specs.declared.steps.Step.{Step}
+use Rattle.ap_steps.specs.Pages.{derivation_text, derivation_texts}
 use Rattle.ap_report.specs.declared.report.Report.{Report}
 use Rattle.ap_report.specs.declared.status.Status.{Status}
 use Rattle.ap_report.specs.declared.status.Status.TheVariants as status

@@ -4,10 +4,10 @@ use Rattle.ap_defs.specs.Goals.{NominalProgram}
 use Rattle.ap_bundle.specs.Bundles.{NominalBundle, NominalProved}
 use Rattle.ap_bundle.specs.Reading.{reading}
 use Rattle.ap_bundle.specs.declared.faults.BundleFault.{BundleFault}
-use Rattle.ap_bundle_check.specs.Reports.{IsCheckReport, IsReadReport, bundle_fault_report}
-use Rattle.ap_pages.specs.declared.pages.Format.{Format}
-use Rattle.ap_pages.specs.declared.steps.Step.{Step}
-use Rattle.ap_pages.specs.Pages.{derivation_text, derivation_texts, document}
+use Rattle.ap_bundle_commands.specs.CheckReports.{IsCheckReport, IsReadReport, bundle_fault_report}
+use Rattle.ap_steps.specs.declared.pages.Format.{Format}
+use Rattle.ap_steps.specs.declared.steps.Step.{Step}
+use Rattle.ap_steps.specs.Pages.{derivation_text, derivation_texts, document}
 use Rattle.ap_report.specs.declared.report.Report.{Report}
 use Rattle.ap_report.specs.declared.status.Status.{Status}
 use Rattle.ap_report.specs.declared.status.Status.TheVariants as status

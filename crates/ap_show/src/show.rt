@@ -2,7 +2,7 @@
 
 ghost use Rattle.std.specs.Prelude.{◌≡◌, ◌≤◌, ℕ, Ok, List as list, length, map, IfOk, OnOk};
 ghost use Rattle.ap_bundle.specs.Bundles.{bundle_of, proved_of};
-ghost use Rattle.ap_bundle_check.specs.Reports.{HasSoundVerdicts};
+ghost use Rattle.ap_bundle_commands.specs.CheckReports.{HasSoundVerdicts};
 ghost use Rattle.ap_defs.specs.Goals.{program_of};
 ghost use Rattle.ap_defs.specs.Limits.{size_limit};
 ghost use Rattle.ap_defs.specs.Printing.{has_word};
@@ -12,14 +12,14 @@ ghost use Rattle.ap_show.specs.Reports.{AreWritten, IsDocument, IsShowReport, Is
 
 use crate::predicates::predicate_words;
 use ap_answers::printing::words_in;
-use ap_bundle_check::{bundle_fault_report, check_bytes};
+use ap_bundle_commands::{bundle_fault_report, check_bytes};
 use ap_bundle_read::{BundleError, read_bundle};
 use ap_defs::lists::{List, Text};
 use ap_defs::memory::Memory;
 use ap_defs::outcomes::{Bundle, Proved};
-use ap_pages::pages::{Format, write_beginning, write_derivation, write_end};
 use ap_program::restricted::Restricted;
 use ap_report::{Report, Status, fault_report};
+use ap_steps::pages::{Format, write_beginning, write_derivation, write_end};
 use ap_steps::proved::steps_of;
 use ap_text::{TextError, program_of_text};
 use std::alloc::Global;

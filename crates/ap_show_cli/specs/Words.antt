@@ -1,8 +1,8 @@
 -- The words that name formats.
 use Rattle.std.specs.Prelude.{ℕ, List, if◌then◌else◌, codes, Option, Some, None}
 use Rattle.std.specs.Str.{bytes_eq}
-use Rattle.ap_pages.specs.declared.pages.Format.{Format}
-use Rattle.ap_pages.specs.declared.pages.Format.TheVariants.{Text, Latex, Html}
+use Rattle.ap_steps.specs.declared.pages.Format.{Format}
+use Rattle.ap_steps.specs.declared.pages.Format.TheVariants.{Text, Latex, Html}
 
 abbrev pub format_named : List ℕ → Option Format
 format_named w =

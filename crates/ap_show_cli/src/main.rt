@@ -42,7 +42,7 @@ fn put<R: AllocGlobal + Print>(rt: &R, bytes: &[u8], status: Status) -> Status {
 }
 
 /// Shows what standard input holds.
-fn show<R: AllocGlobal + Input + Print>(rt: &R, format: ap_pages::pages::Format) -> Status {
+fn show<R: AllocGlobal + Input + Print>(rt: &R, format: ap_steps::pages::Format) -> Status {
     let alloc = rt.alloc();
     let mut source = StdSource::new(rt.reader());
     match read_whole(alloc, &mut source) {

@@ -4,7 +4,7 @@ ghost use Rattle.std.specs.Prelude.{◌≡◌};
 ghost use Rattle.ap_show_cli.specs.Words.{format_named};
 
 use ap_defs::memory::Memory;
-use ap_pages::pages::Format;
+use ap_steps::pages::Format;
 use clap::error::ErrorKind;
 use clap::{Arg, ArgAction, Command};
 use std::alloc::{AllocError, Global};

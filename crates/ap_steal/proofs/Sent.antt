@@ -1,8 +1,8 @@
 -- A job may go to another thread.
 use denote.RattleType.{RattleType}
 use denote.Param.Send.{IsSend, sendable}
-use Rattle.ap_tasks.specs.declared.placed.Shape.{Ghosts}
-use Rattle.ap_lock.proofs.Sent.{seat_send}
+use Rattle.ap_tools.specs.declared.deques.placed.Shape.{Ghosts}
+use Rattle.ap_tools.proofs.SeatSent.{seat_send}
 use Rattle.ap_tools.proofs.Sent.{tools_send as tools}
 use Rattle.ap_steal.specs.contracts.jobs.Job.{the_row}
 

@@ -6,9 +6,8 @@ ghost use Rattle.ap_tools.specs.Planned.{IsNewSeat};
 ghost use Rattle.ap_tools.specs.Hands.{IsFreshTools, AreFreshTools};
 
 use ap_defs::memory::Memory;
-use ap_lock::Seat;
-use ap_tasks::{Owner, Placed, Shape, Thief, tasks};
 use ap_tools::tools::Tools;
+use ap_tools::{Owner, Placed, Seat, Shape, Thief, tasks};
 use std::alloc::Global;
 use std::collections::VecDeque;
 

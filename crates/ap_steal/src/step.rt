@@ -4,7 +4,7 @@ ghost use Rattle.std.specs.Prelude.{◌≡◌, ℕ, true, [], ◌∷◌, if◌th
 ghost use Rattle.ap_paths.specs.declared.entries.Entry.{Entry};
 ghost use Rattle.ap_paths.specs.Trees.{InChoiceTree};
 ghost use Rattle.ap_book.specs.Answers.{Skips};
-ghost use Rattle.ap_lock.specs.Seats.{book_id, book_limit, SameSeat, IsTurn};
+ghost use Rattle.ap_tools.specs.Seats.{book_id, book_limit, SameSeat, IsTurn};
 ghost use Rattle.ap_tools.specs.Planned.{OwnPlanned};
 ghost use Rattle.ap_tools.specs.Order.{IsSole};
 ghost use Rattle.ap_tools.specs.Accounts.{EndsJust, NoneLost};
@@ -13,10 +13,9 @@ use ap_book::SkipError;
 use ap_defs::memory::Memory;
 use ap_defs::paths::Path;
 use ap_entering::entering::{run_kids, run_outs, visit_planned};
-use ap_lock::{Seat, SharedBook};
 use ap_paths::{Tree, Visit};
-use ap_tasks::{Placed, Shape};
 use ap_tools::tools::Tools;
+use ap_tools::{Placed, Seat, Shape, SharedBook};
 use std::alloc::Global;
 use std::sync::Wait;
 

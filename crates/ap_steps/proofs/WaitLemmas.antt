@@ -9,7 +9,7 @@ use Rattle.ap_defs.specs.Goals as goals
 use Rattle.ap_defs.specs.Goals.{NominalClause, NominalGoal, clauses_of}
 use Rattle.ap_checks.specs.Checks.{node_count}
 use Rattle.ap_checks.specs.OpenEnvironments.{OpenEnvironment, open_environment, with_open_name, with_open_term}
-use Rattle.ap_pages.specs.declared.steps.Phrase.{Phrase}
+use Rattle.ap_steps.specs.declared.steps.Phrase.{Phrase}
 use Rattle.ap_steps.specs.declared.bodies.Piece.{Piece}
 use Rattle.ap_steps.specs.declared.walk.Waiting.{Waiting}
 use Rattle.ap_steps.specs.Writers.{bare, piece_of, premise_of}

@@ -8,3 +8,9 @@ pub mod Spelling
 pub mod Obligations
 pub mod Proofs
 pub mod Telling
+pub mod Escapes
+pub mod Depths
+pub mod Plain
+pub mod Latex
+pub mod Html
+pub mod Pages

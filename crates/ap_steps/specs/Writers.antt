@@ -3,8 +3,8 @@ use Rattle.std.specs.Prelude.{ℕ, List, map}
 use Rattle.ap_answers.specs.Spelled.{spelling_in}
 use Rattle.ap_defs.specs.Derivations.{derivation_of}
 use Rattle.ap_defs.specs.Goals.{program_of}
-use Rattle.ap_pages.specs.declared.steps.Phrase.{Phrase}
-use Rattle.ap_pages.specs.declared.steps.Step.{Step}
+use Rattle.ap_steps.specs.declared.steps.Phrase.{Phrase}
+use Rattle.ap_steps.specs.declared.steps.Step.{Step}
 use Rattle.ap_steps.specs.declared.bodies.Piece.{Piece}
 use Rattle.ap_steps.specs.declared.bodies.Piece.TheVariants as code
 use Rattle.ap_steps.specs.declared.bodies.Premise.{Premise}

@@ -10,6 +10,7 @@ ghost use Rattle.ap_steps.specs.Walks.{ArePartsMarked, WritesOn, parts_pending, 
 ghost use Rattle.ap_steps.specs.Writers.{piece_of, writing_of};
 
 use crate::judgements::{atom, relation};
+use crate::steps::Phrase;
 use crate::writers::Writer;
 use ap_defs::goals::Goal;
 use ap_defs::memory::Memory;
@@ -17,7 +18,6 @@ use ap_defs::outcomes::Derivation;
 use ap_defs::terms::Term;
 use ap_judge::cited::Cited;
 use ap_judge::scope::Standing;
-use ap_pages::steps::Phrase;
 
 /// An atom of a body, with its derivation, and how many steps its own stands under.
 #[derive(Drop)]

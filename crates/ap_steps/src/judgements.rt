@@ -8,6 +8,8 @@ ghost use Rattle.ap_judge.specs.Scopes.{environment_of};
 ghost use Rattle.ap_steps.specs.Steps.{arguments_text, atom_text, further_texts, relation_text};
 ghost use Rattle.ap_steps.specs.Writers.{writing_of};
 
+use crate::phrases::phrase_of;
+use crate::steps::Phrase;
 use crate::writers::Writer;
 use ap_answers::place::Place;
 use ap_answers::text::write_term;
@@ -15,8 +17,6 @@ use ap_defs::lists::Text;
 use ap_defs::memory::Memory;
 use ap_defs::terms::Term;
 use ap_judge::scope::{Standing, put, put_each};
-use ap_pages::phrases::phrase_of;
-use ap_pages::steps::Phrase;
 
 /// Writes the word of a predicate, if it has one.
 fn write_word(out: &mut Vec<u8>, words: &[Text], pred: u32) -> Result<(), Memory>

@@ -14,7 +14,9 @@ ghost use Rattle.ap_steps.specs.Proofs.{query_rule, query_steps, root_step, show
 ghost use Rattle.ap_steps.specs.Writers.{bare, written_step, writing_of};
 
 use crate::bodies::pieces_of;
+use crate::phrases::phrase_of;
 use crate::spellings::spelt_in;
+use crate::steps::{Phrase, Step};
 use crate::walk::{add_steps, place_pieces};
 use crate::writers::Writer;
 use ap_answers::answers::write_shown;
@@ -29,8 +31,6 @@ use ap_judge::cited::CitedTerms;
 use ap_judge::identifiers::Identifiers;
 use ap_judge::lookups::query_at;
 use ap_judge::scope::Standing;
-use ap_pages::phrases::phrase_of;
-use ap_pages::steps::{Phrase, Step};
 use ap_spelling::spelt::Spelt;
 use std::alloc::Global;
 use std::collections::HashSet;

@@ -11,6 +11,7 @@ ghost use Rattle.ap_steps.specs.Waits.{atom_steps, premise_nodes, premises_steps
 ghost use Rattle.ap_steps.specs.Writers.{bare, piece_of, written_step, writing_of};
 
 use crate::bodies::{Piece, Premise, pieces_of};
+use crate::steps::{Phrase, Step};
 use crate::writers::Writer;
 use ap_defs::goals::Clause;
 use ap_defs::lists::List;
@@ -21,7 +22,6 @@ use ap_judge::cited::CitedTerms;
 use ap_judge::identifiers::Identifiers;
 use ap_judge::lookups::clause_at;
 use ap_judge::scope::Standing;
-use ap_pages::steps::{Phrase, Step};
 use std::alloc::Global;
 
 /// A premise whose steps are yet to come, and how many steps its own stands under.

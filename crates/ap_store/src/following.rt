@@ -54,7 +54,7 @@ fn step<'a>(store: &Store<'a>, c: Closure<'a>) -> Result<Followed<'a>, Memory>
         Term::Name(_) => Ok(Followed::Ended(c)),
         Term::Pair(_, _) => Ok(Followed::Ended(c)),
         Term::App(_, _) => Ok(Followed::Ended(c)),
-        Term::Abs(_, _) => Ok(Followed::Ended(c)),
+        Term::Abs(_, _, _) => Ok(Followed::Ended(c)),
         Term::Susp(q, x) => {
             let x = Var {
                 num: c.base + x.num,
@@ -78,7 +78,7 @@ fn waiting_at_head(store: &Store<'_>, c: &Closure<'_>) -> Option<usize>
         Term::Name(_) => None,
         Term::Pair(_, _) => None,
         Term::App(_, _) => None,
-        Term::Abs(_, _) => None,
+        Term::Abs(_, _, _) => None,
         Term::Susp(_, x) => {
             let x = Var {
                 num: c.base + x.num,

@@ -24,7 +24,7 @@ pub fn head_key(t: &Term) -> u64
         Term::Unit => 1,
         Term::Name(_) => 2,
         Term::Pair(_, _) => 3,
-        Term::Abs(_, _) => 4,
+        Term::Abs(_, _, _) => 4,
         Term::App(f, _) => 5 + *f as u64,
     }
 }
@@ -62,7 +62,7 @@ fn look_at<'a>(store: &Store<'a>, b: Bare<'a>) -> HeadLook<'a>
         Term::Name(_) => HeadLook::Ends(None),
         Term::Pair(_, _) => HeadLook::Ends(None),
         Term::App(_, _) => HeadLook::Ends(None),
-        Term::Abs(_, _) => HeadLook::Ends(None),
+        Term::Abs(_, _, _) => HeadLook::Ends(None),
         Term::Susp(_, x) => {
             let x = Var {
                 num: b.base + x.num,

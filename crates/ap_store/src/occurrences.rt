@@ -106,7 +106,7 @@ fn occurs_below<'a>(
                 rest = left;
                 continue;
             }
-            Term::App(_, inner) | Term::Abs(_, inner) => {
+            Term::App(_, inner) | Term::Abs(_, _, inner) => {
                 rest = inner;
                 continue;
             }

@@ -14,8 +14,8 @@ use crate::tables::{add_slots, bound_at, found_at, put_value};
 use ap_defs::goals::{Kind, Local};
 use ap_defs::memory::Memory;
 use ap_defs::terms::{Cond, Term, Var};
-use ap_fresh::sets::make_set;
 use ap_perm::closures::{Closure, Lent};
+use ap_perm::sets::make_set;
 use std::alloc::Global;
 
 /// A place among the versions of a store.

@@ -1,18 +1,16 @@
 -- Goals that begin with a word and a bracket: their terms are read once.
-use Rattle.std.proofs.Common.{◌≡◌, ℕ, suc, ◌+◌, List, ◌∷◌, length, Option, None, Some, IfSome, refl, ap, sym, ◌∙◌, arith, subst}
+use Rattle.std.proofs.Common.{◌≡◌, ℕ, suc, ◌+◌, List, ◌∷◌, length, Option, None, Some, refl, arith, subst}
 use Rattle.ap_trees.specs.Readers.{separated, after_comma, after_close}
 use Rattle.ap_trees.specs.Symbols.{Sym, Ident, Open, Close}
 use Rattle.ap_trees.specs.Terms.{Term, Apply, argument_terms}
 use Rattle.ap_trees.specs.TermGrammar.{AreTerms}
 use Rattle.ap_trees.specs.TermReader.{read_term, word_term, application}
 use Rattle.ap_trees.specs.Goals.{Atom}
+use Rattle.ap_trees.proofs.Lists.{some_is}
 use Rattle.ap_trees.proofs.TypeLaws.{close_is}
 use Rattle.ap_trees.proofs.TermLaws.{term_sound, terms_sound, terms_only, closes}
-use Rattle.ap_syntax.specs.Marks.{after_equal, after_fresh}
+use Rattle.ap_syntax.specs.Marks.{after_equal, after_fresh, read_ident}
 use Rattle.ap_syntax.specs.GoalReader.{terms_inside, atom_arguments, read_atom, atom_goal, relation_or_atom, read_flat, parts_inside, applied_by, applied_goal}
-
-some_is : {A : Type 0} (r : Option A) (x : A) (P : A → Type 0) → r ≡ Some x → IfSome r P → P x
-some_is r x P e h = subst (λ s. IfSome s P) e h
 
 -- the terms, up to what follows them
 abbrev parts_of : List Sym → Option (List Term × List Sym)
@@ -56,3 +54,13 @@ by_parts w us (Some x) got = by_close w us x.1 x.0 (after_close x.1) got refl
 -- what is read behind the word and the bracket is the goal
 pub flat_applied : (w : List ℕ) (us : List Sym) → read_flat (Ident w ∷ Open ∷ us) ≡ applied_goal w us
 flat_applied w us = by_parts w us (parts_of us) refl
+
+-- an atom whose parts are read
+pub atom_gives : (ts us rest : List Sym) (w : List ℕ) (args : List Term) → read_ident ts ≡ Some (w, us) → atom_arguments us ≡ Some (args, rest) → read_atom ts ≡ Some ((w, args), rest)
+unfolding read_atom
+atom_gives ts us rest w args word got = rw (word, got) refl
+
+-- what is behind the terms of a word
+pub with_parts : (w : List ℕ) (ts rest : List Sym) (parts : List Term) → parts_inside ts ≡ Some (parts, rest) → applied_goal w ts ≡ applied_by w parts rest (after_equal rest) (after_fresh rest)
+unfolding applied_goal
+with_parts w ts rest parts got = rw got refl

@@ -4,15 +4,21 @@ use Rattle.std.proofs.lemmas.Slice.Eq.{bytes_eq-Decides}
 use Rattle.std.proofs.lemmas.Bool.Decides.{not_from_Decides}
 use Rattle.std.specs.Str.{bytes_eq}
 use Rattle.ap_trees.specs.Readers.{SymbolReader, ◌>>=◌, with_before, further, separated, after_comma, after_close, at_end, after_open}
-use Rattle.ap_trees.specs.Symbols.{Sym, Var, Ident, New, Exists, Open, Close, Comma, Semicolon, Equal, Fresh}
+use Rattle.ap_trees.specs.Symbols.{Sym, Var, Ident, New, Exists, Open, Close, Comma, Semicolon, Equal, Fresh, syms, sym as symbol}
 use Rattle.ap_trees.specs.Terms.{Term}
 use Rattle.ap_trees.specs.TermReader.{read_term}
 use Rattle.ap_trees.specs.TermGrammar.{IsTerm, AreTerms}
 use Rattle.ap_trees.specs.Goals.{Goal, Equation, Freshness, Both, Either, Some_variable, New_name}
+use Rattle.std.proofs.lemmas.List.{length-map}
+use Rattle.ap_trees.specs.declared.symbols.Symbol.{Symbol}
+use Rattle.ap_trees.proofs.Lists.{some_is}
 use Rattle.ap_trees.proofs.TypeLaws.{bind_if, close_is}
 use Rattle.ap_trees.proofs.TermLaws.{term_sound, terms_sound, term_shrinks, terms_shrink, open_is, if_also}
-use Rattle.ap_syntax.specs.Marks.{after_semicolon, after_equal, after_fresh, read_ident, read_bound, unless_blank, blank}
+use Rattle.ap_syntax.specs.Marks.{after_semicolon, after_equal, after_fresh, read_ident, read_bound, opened_ident, opened_variable, unless_blank, blank}
 use Rattle.ap_syntax.specs.Matching.{begins_term, after_group, unless_term}
+use Rattle.ap_syntax.specs.declared.joining.Join.{Join}
+use Rattle.ap_syntax.specs.declared.joining.Join.TheVariants as joins
+use Rattle.ap_syntax.specs.Joins.{read_part}
 use Rattle.ap_syntax.specs.GoalGrammar.{IsAtom, bare, with_arguments, IsGoal, disjunction, AreConjs, last_conj, next_conj, IsConj, conjunction, AreSimples, last_simple, next_simple, IsSimple, new_name, some_variable, in_parentheses, equation, freshness, an_atom}
 use Rattle.ap_syntax.specs.GoalReader.{terms_inside, atom_arguments, read_atom, right_side, atom_goal, relation_or_atom, read_flat, simple_by, goal_inside, new_goal, exists_goal, read_simple, joined_by, read_conj, read_disj, read_goal, all_goal, first_term}
 
@@ -63,13 +69,16 @@ inside_sound : (read : SymbolReader Goal) → Sound read → (ts : List Sym) →
 unfolding goal_inside
 inside_sound read sound ts = bind_if (read ts) _ _ _ (sound ts) (λ goal h. bind_if (after_close goal.1) _ _ _ (close_is goal.1) (λ rest e. subst (IsGoal ts goal.0) e h))
 
+opened_ident_is : (ts : List Sym) → IfSome (opened_ident ts) (λ x. ts ≡ Ident x.0 ∷ Open ∷ x.1)
+unfolding opened_ident
+opened_ident_is ts = bind_if (read_ident ts) _ _ _ (ident_is ts) (λ word e. bind_if (after_open word.1) _ _ _ (open_is word.1) (λ us o. e ∙ ap (λ vs. Ident word.0 ∷ vs) o))
+
 new_sound : (read : SymbolReader Goal) → Sound read → (ts : List Sym) → IfSome (new_goal read ts) (λ x. IsSimple (New ∷ ts) x.0 x.1)
 unfolding new_goal
 new_sound read sound ts =
-    bind_if (read_ident ts) _ _ _ (ident_is ts)
-    (λ word e. bind_if (after_open word.1) _ _ _ (open_is word.1)
-    (λ us o. bind_if (goal_inside read us) _ _ _ (inside_sound read sound us)
-    (λ goal h. subst (λ vs. IsSimple (New ∷ vs) (New_name word.0 goal.0) goal.1) (sym (e ∙ ap (λ vs. Ident word.0 ∷ vs) o)) (new_name h))))
+    bind_if (opened_ident ts) _ _ _ (opened_ident_is ts)
+    (λ word e. bind_if (goal_inside read word.1) _ _ _ (inside_sound read sound word.1)
+    (λ goal h. subst (λ vs. IsSimple (New ∷ vs) (New_name word.0 goal.0) goal.1) (sym e) (new_name h)))
 
 unless_by : (w : List ℕ) (ts us : List Sym) (b : Bool) → bytes_eq w blank ≡ b → us ≡ Var w ∷ ts → IfSome {T = List ℕ × List Sym} (if b then None else Some (w, ts)) (λ x. (x.0 ≢ blank) × (us ≡ Var x.0 ∷ x.1))
 unless_by w ts us true is e = tt
@@ -83,13 +92,18 @@ unfolding read_bound
 bound_is (Var w ∷ us) = unless_is w us (Var w ∷ us) refl
 bound_is ts = tt
 
+opened_variable_is : (ts : List Sym) → IfSome (opened_variable ts) (λ x. (x.0 ≢ blank) × (ts ≡ Var x.0 ∷ Open ∷ x.1))
+unfolding opened_variable
+opened_variable_is ts =
+    bind_if (read_bound ts) _ _ _ (bound_is ts)
+    (λ word e. bind_if (after_open word.1) _ _ _ (open_is word.1) (λ us o. (e.0, e.1 ∙ ap (λ vs. Var word.0 ∷ vs) o)))
+
 exists_sound : (read : SymbolReader Goal) → Sound read → (ts : List Sym) → IfSome (exists_goal read ts) (λ x. IsSimple (Exists ∷ ts) x.0 x.1)
 unfolding exists_goal
 exists_sound read sound ts =
-    bind_if (read_bound ts) _ _ _ (bound_is ts)
-    (λ word e. bind_if (after_open word.1) _ _ _ (open_is word.1)
-    (λ us o. bind_if (goal_inside read us) _ _ _ (inside_sound read sound us)
-    (λ goal h. subst (λ vs. IsSimple (Exists ∷ vs) (Some_variable word.0 goal.0) goal.1) (sym (e.1 ∙ ap (λ vs. Var word.0 ∷ vs) o)) (some_variable e.0 h))))
+    bind_if (opened_variable ts) _ _ _ (opened_variable_is ts)
+    (λ word e. bind_if (goal_inside read word.1) _ _ _ (inside_sound read sound word.1)
+    (λ goal h. subst (λ vs. IsSimple (Exists ∷ vs) (Some_variable word.0 goal.0) goal.1) (sym e.1) (some_variable e.0 h)))
 
 unless_term_is : (ts us : List Sym) (b : Bool) → begins_term us ≡ b → ts ≡ Open ∷ us → IfSome (unless_term us b) (λ vs. (begins_term vs ≡ false) × (ts ≡ Open ∷ vs))
 unless_term_is ts us true b e = tt
@@ -189,3 +203,22 @@ mutual
   simple_shrinks (equation group h g) = omega (arith, term_shrinks h, term_shrinks g)
   simple_shrinks (freshness group h g) = omega (arith, term_shrinks h, term_shrinks g)
   simple_shrinks (an_atom h) = atom_shrinks h
+
+-- What follows what is read is shorter.
+pub atom_shorter : (ts us : List Symbol) (x : List ℕ × List Term) → read_atom (syms ts) ≡ Some (x, syms us) → length us < length ts
+atom_shorter ts us x got =
+    let h : IsAtom (syms ts) x.0 x.1 (syms us) = some_is (read_atom (syms ts)) (x, syms us) (λ y. IsAtom (syms ts) y.0.0 y.0.1 y.1) got (atom_sound (syms ts)) in
+    omega (arith, atom_shrinks h, length-map ts symbol, length-map us symbol)
+
+pub goal_shorter : (n : ℕ) (ts us : List Symbol) (g : Goal) → read_goal n (syms ts) ≡ Some (g, syms us) → length us < length ts
+goal_shorter n ts us g got =
+    let h : IsGoal (syms ts) g (syms us) = some_is (read_goal n (syms ts)) (g, syms us) (λ y. IsGoal (syms ts) y.0 y.1) got (goal_sound n (syms ts)) in
+    omega (arith, goal_shrinks h, length-map ts symbol, length-map us symbol)
+
+pub part_shorter : (join : Join) (n : ℕ) (ts us : List Symbol) (g : Goal) → read_part join (read_goal n) (syms ts) ≡ Some (g, syms us) → length us < length ts
+part_shorter joins.Both n ts us g got =
+    let h : IsSimple (syms ts) g (syms us) = some_is (read_simple (read_goal n) (syms ts)) (g, syms us) (λ y. IsSimple (syms ts) y.0 y.1) got (simple_sound (read_goal n) (goal_sound n) (syms ts)) in
+    omega (arith, simple_shrinks h, length-map ts symbol, length-map us symbol)
+part_shorter joins.Either n ts us g got =
+    let h : IsConj (syms ts) g (syms us) = some_is (read_conj (read_goal n) (syms ts)) (g, syms us) (λ y. IsConj (syms ts) y.0 y.1) got (conj_sound (read_goal n) (goal_sound n) (syms ts)) in
+    omega (arith, conj_shrinks h, length-map ts symbol, length-map us symbol)

@@ -10,7 +10,7 @@ use Rattle.ap_trees.specs.TermGrammar.{IsTerm, AreTerms, under, an_ident, a_var,
 use Rattle.ap_trees.specs.Goals.{Goal, Atom, Equation, Freshness, Both, Either, Some_variable, New_name, joined_goals}
 use Rattle.ap_trees.proofs.TypeLaws.{read_sole, read_several}
 use Rattle.ap_trees.proofs.TermLaws.{Ends, term_only, terms_only, closes}
-use Rattle.ap_syntax.specs.Marks.{after_semicolon, after_equal, after_fresh, after_new, after_exists, read_bound, blank}
+use Rattle.ap_syntax.specs.Marks.{after_semicolon, after_equal, after_fresh, after_new, after_exists, read_bound, opened_ident, opened_variable, blank}
 use Rattle.ap_syntax.specs.Matching.{begins_term, after_group}
 use Rattle.ap_syntax.specs.GoalGrammar.{IsAtom, bare, with_arguments, IsGoal, disjunction, AreConjs, last_conj, next_conj, IsConj, conjunction, AreSimples, last_simple, next_simple, IsSimple, new_name, some_variable, in_parentheses, equation, freshness, an_atom}
 use Rattle.ap_syntax.specs.GoalReader.{terms_inside, atom_arguments, read_atom, right_side, atom_goal, read_flat, goal_inside, new_goal, exists_goal, read_simple, read_conj, read_disj, read_goal, all_goal, first_term}
@@ -100,7 +100,7 @@ unfolding read_simple
 simple_flat read ts plain group = rw (plain.new, plain.exists, group) refl
 
 read_new : (read : SymbolReader Goal) (w : List ℕ) (ts rest : List Sym) (g : Goal) → read ts ≡ Some (g, Close ∷ rest) → read_simple read (New ∷ Ident w ∷ Open ∷ ts) ≡ Some (New_name w g, rest)
-unfolding read_simple new_goal goal_inside
+unfolding read_simple new_goal opened_ident goal_inside
 read_new read w ts rest g got = rw got refl
 
 bound_only : (w : List ℕ) (ts : List Sym) → w ≢ blank → read_bound (Var w ∷ ts) ≡ Some (w, ts)
@@ -110,7 +110,7 @@ bound_only w ts other =
     rw differs refl
 
 read_exists : (read : SymbolReader Goal) (w : List ℕ) (ts rest : List Sym) (g : Goal) → w ≢ blank → read ts ≡ Some (g, Close ∷ rest) → read_simple read (Exists ∷ Var w ∷ Open ∷ ts) ≡ Some (Some_variable w g, rest)
-unfolding read_simple exists_goal goal_inside
+unfolding read_simple exists_goal opened_variable goal_inside
 read_exists read w ts rest g other got = rw (bound_only w (Open ∷ ts) other) (rw got refl)
 
 group_only : (ts : List Sym) → begins_term ts ≡ false → after_group (Open ∷ ts) ≡ Some ts

@@ -3,6 +3,7 @@ pub mod Joins
 pub mod Applied
 pub mod GoalLaws
 pub mod GoalOnly
+pub mod GoalSteps
 pub mod Levels
 pub mod ItemLaws
 pub mod Readings

@@ -5,7 +5,7 @@ use Rattle.ap_trees.specs.Terms.{Term, Apply, argument_terms}
 use Rattle.ap_trees.specs.Goals.{Goal, Atom, Equation, Freshness, Both, Either, Some_variable, New_name, joined_goals}
 use Rattle.ap_trees.specs.Readers.{SymbolReader, ◌>>=◌, separated, after_comma, after_open, after_close, at_end}
 use Rattle.ap_trees.specs.TermReader.{read_term}
-use Rattle.ap_syntax.specs.Marks.{after_semicolon, after_equal, after_fresh, after_new, after_exists, read_ident, read_bound}
+use Rattle.ap_syntax.specs.Marks.{after_semicolon, after_equal, after_fresh, after_new, after_exists, read_ident, opened_ident, opened_variable}
 use Rattle.ap_syntax.specs.Matching.{after_group}
 
 -- a term, as deep as there are symbols
@@ -84,17 +84,15 @@ goal_inside read ts = do
 -- a goal of a new name, behind `new`
 unfoldable pub new_goal : SymbolReader Goal → SymbolReader Goal
 new_goal read ts = do
-  word ← read_ident ts
-  inside ← after_open word.1
-  goal ← goal_inside read inside
+  word ← opened_ident ts
+  goal ← goal_inside read word.1
   Some (New_name word.0 goal.0, goal.1)
 
 -- a goal of some variable, behind `exists`
 unfoldable pub exists_goal : SymbolReader Goal → SymbolReader Goal
 exists_goal read ts = do
-  word ← read_bound ts
-  inside ← after_open word.1
-  goal ← goal_inside read inside
+  word ← opened_variable ts
+  goal ← goal_inside read word.1
   Some (Some_variable word.0 goal.0, goal.1)
 
 abbrev pub simple_by : SymbolReader Goal → List Sym → Option (List Sym) → Option (List Sym) → Option (List Sym) → Option (Goal × List Sym)

@@ -2,6 +2,7 @@ pub mod Marks
 pub mod Matching
 pub mod GoalGrammar
 pub mod GoalReader
+pub mod Joins
 pub mod ItemGrammar
 pub mod ItemReader
 pub mod Nesting

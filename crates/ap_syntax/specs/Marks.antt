@@ -2,7 +2,7 @@
 use Rattle.std.specs.Prelude.{ℕ, List, ◌∷◌, Option, None, Some, codes, if◌then◌else◌}
 use Rattle.std.specs.Str.{bytes_eq}
 use Rattle.ap_trees.specs.Symbols.{Sym, Ident, Var, Colon, Semicolon, Equal, Fresh, New, Exists, If, Ask, Arrow, Pred}
-use Rattle.ap_trees.specs.Readers.{SymbolReader, ◌>>=◌, at_end}
+use Rattle.ap_trees.specs.Readers.{SymbolReader, ◌>>=◌, after_open, at_end}
 
 abbrev pub after_semicolon : List Sym → Option (List Sym)
 after_semicolon (Semicolon ∷ ts) = Some ts
@@ -66,6 +66,20 @@ read_bound ts = do
 abbrev pub after_colon : List Sym → Option (List Sym)
 after_colon (Colon ∷ ts) = Some ts
 after_colon ts = None
+
+-- an IDENT and `(`
+unfoldable pub opened_ident : SymbolReader (List ℕ)
+opened_ident ts = do
+  word ← read_ident ts
+  inside ← after_open word.1
+  Some (word.0, inside)
+
+-- a VAR that isn't `_`, and `(`
+unfoldable pub opened_variable : SymbolReader (List ℕ)
+opened_variable ts = do
+  word ← read_bound ts
+  inside ← after_open word.1
+  Some (word.0, inside)
 
 -- an IDENT and a colon
 unfoldable pub read_declared : SymbolReader (List ℕ)

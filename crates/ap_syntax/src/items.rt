@@ -1,5 +1,5 @@
 // Reading an item.
-ghost use Rattle.std.specs.Prelude.{◌≡◌, ◌≤◌, [], ◌∷◌, length, IfOk};
+ghost use Rattle.std.specs.Prelude.{◌≡◌, [], ◌∷◌, IfOk};
 ghost use Rattle.std.specs.Option.{option_map};
 ghost use Rattle.ap_trees.specs.Outcomes.{GivesPart};
 ghost use Rattle.ap_trees.specs.Symbols.{syms};
@@ -7,7 +7,8 @@ ghost use Rattle.ap_trees.specs.Trees.{type_of_tree, types_of, goal_of_tree, for
 ghost use Rattle.ap_syntax.specs.GoalReader.{all_goal};
 ghost use Rattle.ap_syntax.specs.ItemReader as spec;
 
-use crate::goals::{Head, atom, goal};
+use crate::flat::{Head, atom};
+use crate::goals::goal;
 use crate::marks::{after_arrow, after_ask, after_if, after_pred, declared, ident, sole_ident};
 use ap_defs::lists::List;
 use ap_trees::{
@@ -21,9 +22,8 @@ fn types_inside<'a, 's>(
     alloc: Global,
     symbols: &'s [Symbol<'a>],
 ) -> Result<(Vec<TypeTree<'a>>, &'s [Symbol<'a>]), ReadError>
-    ensures value { GivesPart (λ r. (types_of r.0.items, syms r.1.now)) result
+    ensures { GivesPart (λ r. (types_of r.0.items, syms r.1.now)) result
         (spec.types_inside (syms symbols.now)) }
-    ensures shorter { IfOk result (λ r. length r.1.now ≤ length symbols.now) }
 {
     let (parts, rest) = type_list(alloc, symbols.len(), symbols)?;
     let rest = after_close(rest).ok_or(ReadError::Grammar)?;
@@ -36,9 +36,8 @@ fn sole_argument<'a, 's>(
     alloc: Global,
     symbols: &'s [Symbol<'a>],
 ) -> Result<(Vec<TypeTree<'a>>, &'s [Symbol<'a>]), ReadError>
-    ensures value { GivesPart (λ r. (types_of r.0.items, syms r.1.now)) result
+    ensures { GivesPart (λ r. (types_of r.0.items, syms r.1.now)) result
         (spec.sole_argument (syms symbols.now)) }
-    ensures shorter { IfOk result (λ r. length r.1.now ≤ length symbols.now) }
 {
     let (tree, rest) = type_tree(alloc, symbols.len(), symbols)?;
     Ok((one_type(alloc, tree)?, rest))
@@ -59,9 +58,8 @@ fn listed_arguments<'a, 's>(
     alloc: Global,
     symbols: &'s [Symbol<'a>],
 ) -> Result<(Vec<TypeTree<'a>>, &'s [Symbol<'a>]), ReadError>
-    ensures value { GivesPart (λ r. (types_of r.0.items, syms r.1.now)) result (spec.listed_arguments
+    ensures { GivesPart (λ r. (types_of r.0.items, syms r.1.now)) result (spec.listed_arguments
         (syms symbols.now)) }
-    ensures shorter { IfOk result (λ r. length r.1.now ≤ length symbols.now) }
 {
     match after_close(symbols) {
         Some(rest) => Ok((one_type(alloc, TypeTree::Unit)?, rest)),
@@ -75,9 +73,8 @@ fn arguments<'a, 's>(
     alloc: Global,
     symbols: &'s [Symbol<'a>],
 ) -> Result<(Vec<TypeTree<'a>>, &'s [Symbol<'a>]), ReadError>
-    ensures value { GivesPart (λ r. (types_of r.0.items, syms r.1.now)) result
+    ensures { GivesPart (λ r. (types_of r.0.items, syms r.1.now)) result
         (spec.read_arguments (syms symbols.now)) }
-    ensures shorter { IfOk result (λ r. length r.1.now ≤ length symbols.now) }
 {
     match after_open(symbols) {
         Some(rest) => listed_arguments(alloc, rest),
@@ -147,9 +144,8 @@ fn declared_types<'a, 's>(
     alloc: Global,
     symbols: &'s [Symbol<'a>],
 ) -> Result<(Vec<TypeTree<'a>>, &'s [Symbol<'a>]), ReadError>
-    ensures value { GivesPart (λ r. (types_of r.0.items, syms r.1.now)) result
+    ensures { GivesPart (λ r. (types_of r.0.items, syms r.1.now)) result
         (spec.declared_types (syms symbols.now)) }
-    ensures shorter { IfOk result (λ r. length r.1.now ≤ length symbols.now) }
 {
     match after_open(symbols) {
         Some(rest) => types_inside(alloc, rest),

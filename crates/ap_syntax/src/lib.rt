@@ -5,8 +5,10 @@
 #![tactic(auto)]
 
 mod faults;
+mod flat;
 mod goals;
 mod items;
+mod joining;
 mod marks;
 mod matching;
 mod nesting;

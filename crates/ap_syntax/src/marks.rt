@@ -4,7 +4,7 @@ ghost use Rattle.std.specs.Option.{option_map};
 ghost use Rattle.ap_trees.specs.Symbols.{syms};
 ghost use Rattle.ap_syntax.specs.Marks as spec;
 
-use ap_trees::Symbol;
+use ap_trees::{Symbol, after_open};
 
 /// The symbols after `;`, if it comes first.
 pub fn after_semicolon<'a, 's>(symbols: &'s [Symbol<'a>]) -> Option<&'s [Symbol<'a>]>
@@ -151,6 +151,28 @@ pub fn bound<'a, 's>(symbols: &'s [Symbol<'a>]) -> Option<(&'a str, &'s [Symbol<
     if word == "_" {
         return None;
     }
+    Some((word, rest))
+}
+
+/// An IDENT and `(` that come first.
+#[tactic(auto, unfolding(crate::specs::Marks::opened_ident))]
+pub fn opened_ident<'a, 's>(symbols: &'s [Symbol<'a>]) -> Option<(&'a str, &'s [Symbol<'a>])>
+    ensures { option_map (λ r. (r.0.now, syms r.1.now)) result
+        ≡ spec.opened_ident (syms symbols.now) }
+{
+    let (word, rest) = ident(symbols)?;
+    let rest = after_open(rest)?;
+    Some((word, rest))
+}
+
+/// A VAR other than `_` and `(` that come first.
+#[tactic(auto, unfolding(crate::specs::Marks::opened_variable))]
+pub fn opened_variable<'a, 's>(symbols: &'s [Symbol<'a>]) -> Option<(&'a str, &'s [Symbol<'a>])>
+    ensures { option_map (λ r. (r.0.now, syms r.1.now)) result
+        ≡ spec.opened_variable (syms symbols.now) }
+{
+    let (word, rest) = bound(symbols)?;
+    let rest = after_open(rest)?;
     Some((word, rest))
 }
 

@@ -1,10 +1,10 @@
 use crate::perm::{NothingBound, name, swap};
-use ap_defs::lists::List;
+use ap_defs::lists::Swaps;
 use ap_defs::memory::Memory;
 use ap_defs::terms::{Cond, Name, Term, Var};
-use ap_fresh::error::FreshError;
-use ap_fresh::reduction::reduce;
 use ap_perm::closures::Closure;
+use ap_perm::error::FreshError;
+use ap_perm::reduction::reduce;
 use std::alloc::Global;
 
 const C: Name = Name { sort: 0, num: 2 };
@@ -22,7 +22,7 @@ fn reduced(alloc: Global, a: Name, closure: &Closure<'_>) -> Result<Option<Vec<C
 
 /// What stands for (0 1)(1 2) Y reduces to a condition on Y.
 fn reduces(alloc: Global) -> Result<bool, Memory> {
-    let term = Term::Susp(List::of(Vec::new(alloc)), Y);
+    let term = Term::Susp(Swaps::none(alloc)?, Y);
     let closure = Closure::of(alloc, 0, 4, &term).moved_by(alloc, &[swap(0, 1), swap(1, 2)])?;
     let conds = reduced(alloc, name(0), &closure)?;
     let wanted = [Cond { name: C, var: Y }];

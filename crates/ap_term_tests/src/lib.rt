@@ -1,11 +1,9 @@
-//! Tests of the crates of terms, types and unification: `ap_defs`, `ap_types`, `ap_perm`, `ap_fresh`, `ap_program` and
-//! `ap_store`, and of `ap_gen` and `ap_lanes`. What texts show of other crates stands in the data of `ap_cases` and `ap_part_cases`.
+//! Tests of the crates of terms, types and unification: `ap_defs`, `ap_types`, `ap_perm`, `ap_program` and
+//! `ap_store`, and of `ap_index`. What texts show of other crates stands in the data of `ap_cases` and `ap_part_cases`.
 #![tactic(auto)]
 
 #[cfg(test)]
 mod fresh;
-#[cfg(test)]
-mod generated;
 #[cfg(test)]
 mod lanes;
 #[cfg(test)]

@@ -2,16 +2,16 @@ ghost use Rattle.std.specs.Prelude.{◌≡◌, [], ◌∷◌, IfOk, map, length}
 ghost use Rattle.ap_defs.specs.Terms.{app, susp, term_of};
 
 use ap_defs::goals::{Clause, Fresh, Goal, Kind, Local};
-use ap_defs::lists::{List, Text};
+use ap_defs::lists::{List, Swaps, Text};
 use ap_defs::memory::Memory;
 use ap_defs::terms::{Term, Ty, Var};
 use ap_program::renaming::rename;
 use std::alloc::Global;
 
-fn variable(alloc: Global, num: u64) -> Term
-    ensures { term_of result ≡ susp [] (record { num = num }) }
+fn variable(alloc: Global, num: u64) -> Result<Term, Memory>
+    ensures { IfOk result (λ t. term_of t ≡ susp [] (record { num = num })) }
 {
-    Term::Susp(List::of(Vec::new(alloc)), Var { num })
+    Ok(Term::Susp(Swaps::none(alloc)?, Var { num }))
 }
 
 fn local(alloc: Global, ty: Ty) -> Local {
@@ -35,7 +35,7 @@ fn locals(alloc: Global) -> Result<Vec<Local>, Memory>
 fn argument(alloc: Global) -> Result<Vec<Term>, Memory>
     ensures { IfOk result (λ v. map term_of v.items ≡ app 2 (susp [] (record { num = 1 })) ∷ []) }
 {
-    let variable = Box::new(alloc, variable(alloc, 1))?;
+    let variable = Box::new(alloc, variable(alloc, 1)?)?;
     let mut arguments = Vec::with_capacity(alloc, 1)?;
     arguments.push(Term::App(2, variable))?;
     Ok(arguments)
@@ -50,7 +50,7 @@ fn renamed(alloc: Global) -> Result<Fresh, Memory> {
         line: 1,
         pred: 0,
         args,
-        body: Goal::Fresh(variable(alloc, 0), variable(alloc, 1)),
+        body: Goal::Fresh(variable(alloc, 0)?, variable(alloc, 1)?),
         locals,
     };
     rename(alloc, &clause, 4)

@@ -1,7 +1,7 @@
 use ap_defs::copies::{copy_kind, copy_term, copy_type};
 use ap_defs::goals::Kind;
 use ap_defs::ground::{alpha_eq, fresh_ground};
-use ap_defs::lists::{List, Text};
+use ap_defs::lists::{Swaps, Text};
 use ap_defs::memory::Memory;
 use ap_defs::terms::{Ground, Name, Swap, Term, Ty, Var};
 use std::alloc::Global;
@@ -50,7 +50,7 @@ fn parts(alloc: Global) -> Result<(Term, Term), Memory> {
         left: 0,
         right: 1,
     };
-    let swaps = List::of(Vec::from_array(alloc, [swap])?);
+    let swaps = Swaps::of(alloc, Vec::from_array(alloc, [swap])?)?;
     Ok((Term::Susp(swaps, Var { num: 3 }), Term::Name(B)))
 }
 
@@ -60,7 +60,8 @@ fn pair(alloc: Global) -> Result<Term, Memory> {
 }
 
 fn copied_term(alloc: Global) -> Result<Term, Memory> {
-    copy_term(alloc, &Term::Abs(A, Box::new(alloc, pair(alloc)?)?))
+    let body = Box::new(alloc, pair(alloc)?)?;
+    copy_term(alloc, &Term::Abs(A.sort, A.num, body))
 }
 
 fn are_parts(left: &Term, right: &Term) -> bool {
@@ -81,7 +82,7 @@ fn is_pair(term: &Term) -> bool {
 
 fn is_copied(term: &Term) -> bool {
     match term {
-        Term::Abs(a, body) => *a == A && is_pair(body),
+        Term::Abs(sort, num, body) => *sort == A.sort && *num == A.num && is_pair(body),
         _ => false,
     }
 }

@@ -14,20 +14,20 @@ use Rattle.ap_book.specs.declared.error.DoneError.{DoneError}
 use Rattle.ap_book.specs.declared.error.SkipError.{SkipError}
 use Rattle.ap_book.specs.declared.error.SkipError.TheVariants as refused
 use Rattle.ap_book.specs.Answers.{Refuses, Enters, EntersDone, Skips}
-use Rattle.ap_tasks.specs.declared.hand.Hand.{Hand}
-use Rattle.ap_tasks.specs.Rule.{hand}
-use Rattle.ap_tasks.specs.Ends.{ThiefView}
-use Rattle.ap_tasks.specs.Owners.{stolen_of}
-use Rattle.ap_tasks.specs.Thieves.{Stole}
-use Rattle.ap_tasks.specs.declared.thief.Stolen.{Stolen}
-use Rattle.ap_tasks.specs.declared.thief.Stolen.TheVariants.{Empty, Again}
-use Rattle.ap_lock.specs.Turns.{Begins, maker_of, own_places_from, places_of}
-use Rattle.ap_lock.specs.Seats.{SeatView, IsTurn}
-use Rattle.ap_lock.proofs.Places.{places_from-append}
+use Rattle.ap_tools.specs.declared.deques.hand.Hand.{Hand}
+use Rattle.ap_tools.specs.Rule.{hand}
+use Rattle.ap_tools.specs.Ends.{ThiefView}
+use Rattle.ap_tools.specs.Owners.{stolen_of}
+use Rattle.ap_tools.specs.Thieves.{Stole}
+use Rattle.ap_tools.specs.declared.deques.thief.Stolen.{Stolen}
+use Rattle.ap_tools.specs.declared.deques.thief.Stolen.TheVariants.{Empty, Again}
+use Rattle.ap_tools.specs.Turns.{Begins, maker_of, own_places_from, places_of}
+use Rattle.ap_tools.specs.Seats.{SeatView, IsTurn}
+use Rattle.ap_tools.proofs.SeatPlaces.{places_from-append}
 use Rattle.ap_tools.specs.declared.tools.Tools.{Tools}
 use Rattle.ap_tools.specs.Hands.{held}
 use Rattle.ap_tools.specs.Accounts.{entries_by, opened_kids, ended_paths, fetched, Took, came, kept_weight, AreShut, EndsJust, NoneLost}
-use Rattle.ap_tools.proofs.Own.{same_front}
+use Rattle.ap_tools.proofs.OwnEntries.{same_front}
 use Rattle.ap_tools.proofs.Sole.{quiet_front}
 
 made_by-append : (n : ℕ) (xs ys : List Entry) → entries_by n (xs ++ ys) ≡ entries_by n xs ++ entries_by n ys

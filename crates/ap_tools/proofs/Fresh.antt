@@ -3,7 +3,7 @@ use Rattle.std.proofs.Common.{◌≡◌, ℕ, zero, suc, ◌+◌, ◌-◌, ◌<�
 use Rattle.std.proofs.lemmas.List.{map-append, reverse-append, reverse-reverse, drop_more}
 use Rattle.ap_paths.specs.History.{kids_of}
 use Rattle.ap_paths.specs.Weights.{weigh}
-use Rattle.ap_tasks.proofs.Moves.{weigh-append}
+use Rattle.ap_tools.proofs.Moves.{weigh-append}
 use Rattle.ap_tools.specs.declared.tools.Tools.{Tools}
 use Rattle.ap_tools.specs.Hands.{IsFreshTools, AreFreshTools}
 

@@ -1,7 +1,7 @@
 -- Tools may go to another thread.
 use denote.RattleType.{RattleType}
 use denote.Param.Send.{IsSend}
-use Rattle.ap_tasks.specs.declared.placed.Shape.{Ghosts}
+use Rattle.ap_tools.specs.declared.deques.placed.Shape.{Ghosts}
 use Rattle.ap_tools.proofs.tools.Tools.TheSendSync.{the_send}
 use Rattle.ap_tools.specs.contracts.tools.Tools.{the_row}
 

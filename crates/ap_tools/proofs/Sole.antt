@@ -17,21 +17,21 @@ use Rattle.ap_book.specs.declared.error.SkipError.TheVariants as refused
 use Rattle.ap_book.specs.Answers.{Refuses, Enters, EntersDone, Skips}
 use Rattle.ap_paths.specs.declared.limits.Limit.{Limit}
 use Rattle.ap_paths.proofs.Histories.{legal_parts}
-use Rattle.ap_core.specs.Traces.{AreSeats, IsInOrder, EventsLead}
-use Rattle.ap_lock.specs.Turns.{AreBy, maker_of, own_places_from, places_of}
-use Rattle.ap_lock.specs.Seats.{SeatView, IsTurn, AreLogged, AreMadeBy, logs_of}
-use Rattle.ap_lock.proofs.Places.{places_from-append}
+use Rattle.ap_tools.specs.Traces.{AreSeats, IsInOrder, EventsLead}
+use Rattle.ap_tools.specs.Turns.{AreBy, maker_of, own_places_from, places_of}
+use Rattle.ap_tools.specs.Seats.{SeatView, IsTurn, AreLogged, AreMadeBy, logs_of}
+use Rattle.ap_tools.proofs.SeatPlaces.{places_from-append}
 use Rattle.ap_tools.specs.Order.{Runs, IsSole, IsOrdered}
-use Rattle.ap_tools.proofs.Own.{same_front}
+use Rattle.ap_tools.proofs.OwnEntries.{same_front}
 use Rattle.ap_tools.specs.Planned.{Plans, ArePlanned}
 use Rattle.ap_tools.proofs.Whole.{entries_of-append, has_stop-append, either_false, AllEnded, nothing_open, are_seats, planned_true}
 use Rattle.atomic_table.specs.Seated.{TableId}
 use Rattle.ap_paths.specs.declared.entries.Closed.{Closed}
-use Rattle.ap_core.specs.declared.events.Event.{Event}
+use Rattle.ap_tools.specs.declared.histories.events.Event.{Event}
 use Rattle.ap_paths.specs.Trees.{Choices, Outputs, InChoiceTree, IsPlan, AreTrue}
-use Rattle.ap_core.specs.States.{WorkersState, start_state}
-use Rattle.ap_core.proofs.Permitted.{is_permitted}
-use Rattle.ap_core.proofs.OneWorker.{are_in_order}
+use Rattle.ap_tools.specs.States.{WorkersState, start_state}
+use Rattle.ap_tools.proofs.Permitted.{is_permitted}
+use Rattle.ap_tools.proofs.OneWorker.{are_in_order}
 
 Paths : Type 0
 Paths = List (List ℕ)

@@ -16,12 +16,12 @@ use Rattle.ap_paths.specs.Merging.{merged}
 use Rattle.ap_paths.proofs.Histories.{legal_parts}
 use Rattle.ap_paths.proofs.Frontiers.{merged_whole}
 use Rattle.ap_paths.specs.declared.entries.Closed.{Closed}
-use Rattle.ap_core.specs.Traces.{AreSeats}
-use Rattle.ap_lock.specs.Turns.{Begins, maker_of, one_turn_if, own_places_from}
-use Rattle.ap_lock.specs.Seats.{SeatView, AreOfBook, AreLogged, AreMadeBy, seats_with, new_seats}
-use Rattle.ap_lock.proofs.Endings.{new_seats-length}
+use Rattle.ap_tools.specs.Traces.{AreSeats}
+use Rattle.ap_tools.specs.Turns.{Begins, maker_of, one_turn_if, own_places_from}
+use Rattle.ap_tools.specs.Seats.{SeatView, AreOfBook, AreLogged, AreMadeBy, seats_with, new_seats}
+use Rattle.ap_tools.proofs.Endings.{new_seats-length}
 use Rattle.ap_tools.specs.Planned.{Plans, IsPlanned, ArePlanned, OwnPlanned, IsOver, IsNewSeat, EndedSeat}
-use Rattle.ap_tools.proofs.Own.{other, own_turn}
+use Rattle.ap_tools.proofs.OwnEntries.{other, own_turn}
 
 -- the seats one by one
 abbrev pub AllEnded : Choices → Plans → Limit → TableId → List SeatView → Type 0

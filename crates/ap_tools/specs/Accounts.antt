@@ -5,8 +5,8 @@ use Rattle.ap_paths.specs.declared.entries.Entry.TheVariants.{Split, Done, Skip,
 use Rattle.ap_paths.specs.Entries.{entries_of}
 use Rattle.ap_paths.specs.History.{kids_of, is_open, open_of}
 use Rattle.ap_paths.specs.Weights.{weigh}
-use Rattle.ap_tasks.specs.Owners.{owner_view, stolen_of}
-use Rattle.ap_lock.specs.Turns.{Begins, maker_of}
+use Rattle.ap_tools.specs.Owners.{owner_view, stolen_of}
+use Rattle.ap_tools.specs.Turns.{Begins, maker_of}
 use Rattle.ap_tools.specs.declared.tools.Tools.{Tools}
 use Rattle.ap_tools.specs.Hands.{held}
 

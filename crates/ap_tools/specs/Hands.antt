@@ -1,8 +1,8 @@
 -- What the workers have before anything was run, and what a worker holds.
 use Rattle.std.specs.Prelude.{◌≡◌, ℕ, zero, suc, ◌+◌, false, List, [], ◌∷◌}
 use Rattle.ap_paths.specs.Weights.{weigh}
-use Rattle.ap_tasks.specs.Rule.{hand}
-use Rattle.ap_tasks.specs.Owners.{owner_view}
+use Rattle.ap_tools.specs.Rule.{hand}
+use Rattle.ap_tools.specs.Owners.{owner_view}
 use Rattle.ap_tools.specs.declared.tools.Tools.{Tools}
 
 -- the first of the workers has the empty path in its hand, and the others have none

@@ -2,3 +2,17 @@ pub mod Accounts
 pub mod Hands
 pub mod Order
 pub mod Planned
+pub mod States
+pub mod Steps
+pub mod Traces
+pub mod Laws
+pub mod Stages
+pub mod Single
+pub mod Covers
+pub mod Rule
+pub mod Ends
+pub mod Thieves
+pub mod Owners
+pub mod Turns
+pub mod Seats
+pub mod Noting

@@ -3,8 +3,8 @@ use Rattle.std.specs.Prelude.{◌≡◌, ℕ, true, false, Option, Some, None, L
 use Rattle.ap_paths.specs.declared.entries.Entry.{Entry}
 use Rattle.ap_paths.specs.Entries.{TreeEntry, split, done, skip, stop, entries_of}
 use Rattle.ap_paths.specs.History.{kids_of, has_stop}
-use Rattle.ap_core.specs.Traces.{IsInOrder}
-use Rattle.ap_lock.specs.Turns.{AreBy}
+use Rattle.ap_tools.specs.Traces.{IsInOrder}
+use Rattle.ap_tools.specs.Turns.{AreBy}
 use Rattle.ap_tools.specs.declared.tools.Tools.{Tools}
 
 -- the entries lead from one hand to another

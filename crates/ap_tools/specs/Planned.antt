@@ -8,8 +8,8 @@ use Rattle.ap_paths.specs.Limits.{IsWithin}
 use Rattle.ap_paths.specs.History.{progress_of}
 use Rattle.ap_paths.specs.Trees.{Choices, InChoiceTree, IsChoice}
 use Rattle.atomic_table.specs.Seated.{TableId}
-use Rattle.ap_lock.specs.Turns.{maker_of}
-use Rattle.ap_lock.specs.Seats.{SeatView}
+use Rattle.ap_tools.specs.Turns.{maker_of}
+use Rattle.ap_tools.specs.Seats.{SeatView}
 
 abbrev pub Plans : Type 0
 Plans = List ℕ → Plan

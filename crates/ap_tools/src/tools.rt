@@ -8,8 +8,8 @@ ghost use Rattle.ap_tools.specs.Order.{KeepsWho, TookFirst};
 ghost use Rattle.ap_tools.specs.Hands.{IsFreshTools, held};
 ghost use Rattle.ap_tools.specs.Accounts.{fetched, Took};
 
+use crate::{Owner, Placed, Shape, Stolen, Thief};
 use ap_defs::memory::Memory;
-use ap_tasks::{Owner, Placed, Shape, Stolen, Thief};
 use std::alloc::Global;
 use std::collections::VecDeque;
 

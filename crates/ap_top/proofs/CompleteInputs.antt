@@ -1,7 +1,7 @@
 -- The answers in the report on any input are complete.
 use Rattle.std.proofs.Common.{ℕ, List, Option, Some, None}
 use Rattle.ap_report.proofs.CompleteTexts.{complete_text}
-use Rattle.ap_bundle_cover.proofs.CoveredProofs.{covered_proofs}
+use Rattle.ap_bundle_commands.proofs.CoveredProofs.{covered_proofs}
 use Rattle.ap_top.specs.Report.{IsCompleteFor, Broken, AreAnswersComplete, Input, Over, Whole}
 use Rattle.ap_words.specs.declared.Asked.{Asked}
 use Rattle.ap_words.specs.declared.Asked.TheVariants as asked

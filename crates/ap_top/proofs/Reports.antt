@@ -11,17 +11,17 @@ use Rattle.ap_bundle.specs.Bundles.{NominalBundle, NominalProved}
 use Rattle.ap_bundle.specs.Reading.{cited_reading, reading}
 use Rattle.ap_bundle.specs.declared.faults.BundleFault.{BundleFault}
 use Rattle.ap_verdicts.specs.Verdicts.{RefusedProof, first_refused}
-use Rattle.ap_bundle_prove.specs.Reports.{prove_report}
-use Rattle.ap_bundle_check.specs.Reports.{IsReadReport, check_report, verdicts_report}
+use Rattle.ap_text_commands.specs.ProveReports.{prove_report}
+use Rattle.ap_bundle_commands.specs.CheckReports.{IsReadReport, check_report, verdicts_report}
 use Rattle.ap_bundle.specs.declared.version.Version.{Version}
-use Rattle.ap_bundle_convert.specs.Reports.{convert_report}
-use Rattle.ap_bundle_cover.specs.Reports as cover
-use Rattle.ap_bundle_cover.specs.Reports.{cover_report, covers_report, proofs_report}
-use Rattle.ap_bundle_cover.specs.Uncovered.{first_uncovered}
-use Rattle.ap_gen.specs.Generated.{generated}
+use Rattle.ap_bundle_commands.specs.ConvertReports.{convert_report}
+use Rattle.ap_bundle_commands.specs.CoverReports as cover
+use Rattle.ap_bundle_commands.specs.CoverReports.{cover_report, covers_report, proofs_report}
+use Rattle.ap_bundle_commands.specs.Uncovered.{first_uncovered}
+use Rattle.ap_words.specs.Generated.{generated}
 use Rattle.ap_examine.specs.Reports.{exam_report, exams_from, first_other, other_or}
-use Rattle.ap_uses.specs.Reports.{count_report}
-use Rattle.ap_work.specs.Reports.{summary_report, work_depth}
+use Rattle.ap_text_commands.specs.CountReports.{count_report}
+use Rattle.ap_text_commands.specs.WorkReports.{summary_report, work_depth}
 use Rattle.ap_words.specs.declared.Asked.{Asked}
 use Rattle.ap_words.specs.declared.Asked.TheVariants as asked
 use Rattle.ap_top.specs.Report.{Input, Whole, Over, Broken, IsReportOf}

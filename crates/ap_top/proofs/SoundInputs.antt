@@ -1,8 +1,8 @@
 -- The answers in the report on any input are sound.
 use Rattle.std.proofs.Common.{ℕ, List, Option, Some, None}
 use Rattle.ap_report.proofs.SoundTexts.{sound_text}
-use Rattle.ap_bundle_prove.proofs.SoundProofs.{sound_proofs}
-use Rattle.ap_bundle_check.proofs.SoundVerdicts.{sound_verdicts}
+use Rattle.ap_text_commands.proofs.SoundProofs.{sound_proofs}
+use Rattle.ap_bundle_commands.proofs.SoundVerdicts.{sound_verdicts}
 use Rattle.ap_examine.proofs.RefutingLemmas.{text_sound}
 use Rattle.ap_top.specs.Report.{IsSoundFor, Broken, AreAnswersSound, Input, Over, Whole}
 use Rattle.ap_words.specs.declared.Asked.{Asked}

@@ -6,14 +6,14 @@ use Rattle.ap_report.specs.declared.status.Status.TheVariants as status
 use Rattle.ap_report.specs.CompleteTexts.{IsCompleteText}
 use Rattle.ap_report.specs.SoundAnswers.{IsSoundText}
 use Rattle.ap_report.specs.TextReport.{IsTextReport, run_report}
-use Rattle.ap_bundle_prove.specs.Reports.{HasSoundProofs, IsProveReport}
-use Rattle.ap_bundle_check.specs.Reports.{HasSoundVerdicts, IsCheckReport}
-use Rattle.ap_bundle_convert.specs.Reports.{IsConvertReport}
-use Rattle.ap_bundle_cover.specs.Reports.{HasCoveredProofs, IsCoverReport}
+use Rattle.ap_text_commands.specs.ProveReports.{HasSoundProofs, IsProveReport}
+use Rattle.ap_bundle_commands.specs.CheckReports.{HasSoundVerdicts, IsCheckReport}
+use Rattle.ap_bundle_commands.specs.ConvertReports.{IsConvertReport}
+use Rattle.ap_bundle_commands.specs.CoverReports.{HasCoveredProofs, IsCoverReport}
 use Rattle.ap_examine.specs.Counterexamples.{HasSoundExams}
 use Rattle.ap_examine.specs.Reports.{IsExamReport}
-use Rattle.ap_uses.specs.Reports.{IsCountReport}
-use Rattle.ap_work.specs.Reports.{IsWorkReport}
+use Rattle.ap_text_commands.specs.CountReports.{IsCountReport}
+use Rattle.ap_text_commands.specs.WorkReports.{IsWorkReport}
 use Rattle.ap_words.specs.declared.Asked.{Asked}
 use Rattle.ap_words.specs.declared.Asked.TheVariants as asked
 use Rattle.ap_words.specs.Words.{asked_of}

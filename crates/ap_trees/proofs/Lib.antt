@@ -2,3 +2,4 @@ pub mod Lists
 pub mod TypeLaws
 pub mod TermLists
 pub mod TermLaws
+pub mod TermSteps

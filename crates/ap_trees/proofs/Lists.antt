@@ -1,5 +1,5 @@
 -- Lists with commas between.
-use Rattle.std.proofs.Common.{◌≡◌, ◌<◌, ℕ, zero, suc, arith, List, [], ◌∷◌, ◌++◌, Option, None, Some, refl, sym, ap, ◌∙◌, append_assoc, append-nil, subst, Result, Ok, Err, IfOk}
+use Rattle.std.proofs.Common.{◌≡◌, ◌<◌, ℕ, zero, suc, arith, List, [], ◌∷◌, ◌++◌, Option, None, Some, IfSome, refl, sym, ap, ◌∙◌, append_assoc, append-nil, subst, Result, Ok, Err, IfOk}
 use Rattle.ap_trees.specs.declared.outcome.ReadError.{ReadError}
 use Rattle.ap_trees.specs.declared.outcome.ReadError.TheVariants as errors
 use Rattle.ap_trees.specs.Outcomes.{FailsPart, GivesPart}
@@ -59,6 +59,15 @@ fails_on errors.Grammar r s on f = on f
 -- what a function gives, said of an equal reading
 pub gives_as : {X Y : Type 0} (view : X → Y) (r : Result X ReadError) (a b : Option Y) → GivesPart view r a → b ≡ a → GivesPart view r b
 gives_as view r a b g e = subst (GivesPart view r) (sym e) g
+
+-- what is read has what any reading has
+pub some_is : {A : Type 0} (o : Option A) (x : A) (P : A → Type 0) → o ≡ Some x → IfSome o P → P x
+some_is o x P e h = subst (λ s. IfSome s P) e h
+
+-- what is returned has what follows from its being read
+pub gives_ok : {X Y : Type 0} (view : X → Y) (Q : X → Type 0) (r : Result X ReadError) (a : Option Y) → GivesPart view r a → ((x : X) → a ≡ Some (view x) → Q x) → IfOk r Q
+gives_ok view Q (Ok x) a g also = also x g
+gives_ok view Q (Err e) a g also = tt
 
 -- what is returned has what follows from what it has
 pub ok_weaker : {X : Type 0} (P Q : X → Type 0) (r : Result X ReadError) → IfOk r P → ((x : X) → P x → Q x) → IfOk r Q

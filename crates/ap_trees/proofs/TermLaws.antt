@@ -1,10 +1,13 @@
 -- What is read is in the grammar of terms, and what is in it is read.
 use Rattle.std.proofs.Common.{◌≡◌, ℕ, zero, suc, ◌<◌, ◌≤◌, List, [], ◌∷◌, length, Option, None, Some, IfSome, refl, sym, ◌∙◌, arith, subst}
 use Rattle.ap_trees.specs.Readers.{SymbolReader, with_before, further, separated, after_comma, after_lambda, after_close, after_close_list, at_end, after_open}
-use Rattle.ap_trees.specs.Symbols.{Sym, Swap, Var, Ident, Open, Close, OpenList, CloseList, Comma, Bar, Lambda}
-use Rattle.ap_trees.specs.TermReader.{read_id, side, swapped, abstraction, list_within, application, word_term, variable, group, list_end, full_list, list_of, read_term, all_term}
+use Rattle.ap_trees.specs.declared.symbols.Symbol.{Symbol}
+use Rattle.ap_trees.specs.Symbols.{Sym, Swap, Var, Ident, Open, Close, OpenList, CloseList, Comma, Bar, Lambda, syms, sym as symbol}
+use Rattle.ap_trees.specs.TermReader.{read_id, side, both_sides, swapped, abstraction, list_within, application, word_term, variable, group, list_end, full_list, list_of, read_term, all_term}
 use Rattle.ap_trees.specs.Terms.{Name, Swapped, Term, OfWord, OfVar, Unit, Variable, Word, Apply, Nil, Abs, argument_terms, tuple, cells}
 use Rattle.ap_trees.specs.TermGrammar.{IsTerm, IsEnd, AreTerms, a_variable, a_word, under, applied, the_unit, grouped, the_nil, listed, swapping, IsId, an_ident, a_var, no_bar, behind_bar, only_one, and_more}
+use Rattle.std.proofs.lemmas.List.{length-map}
+use Rattle.ap_trees.proofs.Lists.{some_is}
 use Rattle.ap_trees.proofs.TypeLaws.{bind_if, close_is, close_list_is, read_sole, read_several}
 
 pub if_also : {A : Type 0} (r : Option A) (P Q : A → Type 0) → IfSome r P → ((x : A) → P x → Q x) → IfSome r Q
@@ -76,15 +79,28 @@ side_sound : (ts : List Sym) → IfSome (side ts) (λ x. IsId ts x.0 (Comma ∷ 
 unfolding side
 side_sound ts = bind_if (read_id ts) _ _ _ (id_sound ts) (λ name i. bind_if (after_comma name.1) _ _ _ (comma_is name.1) (λ rest e. subst (IsId ts name.0) e i))
 
+-- both identifiers of a swapping
+record AreSides (ts : List Sym) (both : Name × Name) (rest : List Sym) : Type 0 where
+  inside : List Sym
+  after : List Sym
+  opens : ts ≡ Open ∷ inside
+  left : IsId inside both.0 (Comma ∷ after)
+  right : IsId after both.1 (Comma ∷ rest)
+
+sides_sound : (ts : List Sym) → IfSome (both_sides ts) (λ x. AreSides ts x.0 x.1)
+unfolding both_sides
+sides_sound ts =
+    bind_if (after_open ts) _ _ _ (open_is ts)
+    (λ inside o. bind_if (side inside) _ _ _ (side_sound inside)
+    (λ left i. bind_if (side left.1) _ _ _ (side_sound left.1) (λ right j. record { inside = inside; after = left.1; opens = o; left = i; right = j })))
+
 swapped_sound : (read : SymbolReader Term) → Sound read → (ts : List Sym) → IfSome (swapped read ts) (λ x. IsTerm (Swap ∷ ts) x.0 x.1)
 unfolding swapped
 swapped_sound read sound ts =
-    bind_if (after_open ts) _ _ _ (open_is ts)
-    (λ inside o. bind_if (side inside) _ _ _ (side_sound inside)
-    (λ left i. bind_if (side left.1) _ _ _ (side_sound left.1)
-    (λ right j. bind_if (read right.1) _ _ _ (sound right.1)
+    bind_if (both_sides ts) _ _ _ (sides_sound ts)
+    (λ both s. bind_if (read both.1) _ _ _ (sound both.1)
     (λ body h. bind_if (after_close body.1) _ _ _ (close_is body.1)
-    (λ rest e. subst (λ us. IsTerm (Swap ∷ us) (Swapped left.0 right.0 body.0) rest) (sym o) (swapping i j (subst (IsTerm right.1 body.0) e h)))))))
+    (λ rest e. subst (λ us. IsTerm (Swap ∷ us) (Swapped both.0.0 both.0.1 body.0) rest) (sym s.opens) (swapping s.left s.right (subst (IsTerm both.1 body.0) e h)))))
 
 list_sound : (read : SymbolReader Term) → Sound read → (ts : List Sym) → IfSome (list_of read ts) (λ x. IsTerm (OpenList ∷ ts) x.0 x.1)
 unfolding list_of
@@ -125,6 +141,17 @@ mutual
   pub terms_shrink : {ts rest : List Sym} {parts : List Term} → AreTerms ts parts rest → length rest < length ts
   terms_shrink (only_one h) = term_shrinks h
   terms_shrink (and_more h g) = omega (arith, term_shrinks h, terms_shrink g)
+
+-- What follows what is read is shorter.
+pub term_shorter : (n : ℕ) (ts us : List Symbol) (t : Term) → read_term n (syms ts) ≡ Some (t, syms us) → length us < length ts
+term_shorter n ts us t got =
+    let h : IsTerm (syms ts) t (syms us) = some_is (read_term n (syms ts)) (t, syms us) (λ x. IsTerm (syms ts) x.0 x.1) got (term_sound n (syms ts)) in
+    omega (arith, term_shrinks h, length-map ts symbol, length-map us symbol)
+
+pub terms_shorter : (n k : ℕ) (ts us : List Symbol) (parts : List Term) → separated after_comma (read_term n) k (syms ts) ≡ Some (parts, syms us) → length us < length ts
+terms_shorter n k ts us parts got =
+    let h : AreTerms (syms ts) parts (syms us) = some_is (separated after_comma (read_term n) k (syms ts)) (parts, syms us) (λ x. AreTerms (syms ts) x.0 x.1) got (terms_sound (read_term n) (term_sound n) k (syms ts)) in
+    omega (arith, terms_shrink h, length-map ts symbol, length-map us symbol)
 
 -- no term begins with `)` or `]`
 record Begins (ts : List Sym) : Type 0 where
@@ -211,7 +238,7 @@ side_only a_var = refl
 
 read_swapped : (n : ℕ) (ts us vs rest : List Sym) (left right : Name) (t : Term) → side ts ≡ Some (left, us) → side us ≡ Some (right, vs) → read_term n vs ≡ Some (t, Close ∷ rest)
     → read_term (suc n) (Swap ∷ Open ∷ ts) ≡ Some (Swapped left right t, rest)
-unfolding read_term swapped
+unfolding read_term swapped both_sides
 read_swapped n ts us vs rest left right t first second got = rw first (rw second (rw got refl))
 
 pub closes : {rest : List Sym} → Ends (Close ∷ rest)

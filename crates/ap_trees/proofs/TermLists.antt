@@ -1,10 +1,6 @@
 -- What is built of a list of terms, from its end.
-use Rattle.std.proofs.Common.{◌≡◌, ◌<◌, ℕ, List, [], ◌∷◌, ◌++◌, length, None, Some, refl, ap}
+use Rattle.std.proofs.Common.{◌≡◌, List, [], ◌∷◌, ◌++◌, refl, ap}
 use Rattle.ap_trees.specs.Terms.{Term, Terms, Pair, Cell, Last, More, tuple, cells, argument_terms}
-use Rattle.ap_trees.specs.Symbols.{Sym}
-use Rattle.ap_trees.specs.Readers.{SymbolReader, after_comma}
-use Rattle.ap_trees.specs.TermReader.{application, sole_application}
-use Rattle.ap_trees.proofs.Lists.{separated_alone, separated_fails}
 
 pub tuple_end : (ts : List Term) (t u : Term) → tuple (ts ++ t ∷ u ∷ []) ≡ tuple (ts ++ Pair t u ∷ [])
 tuple_end [] t u = refl
@@ -28,14 +24,3 @@ pub onto_last : (ts : List Term) (t : Term) → onto ts (Last t) ≡ argument_te
 onto_last [] t = refl
 onto_last (s ∷ []) t = refl
 onto_last (s ∷ r ∷ ts) t = ap (λ v. More s v) (onto_last (r ∷ ts) t)
-
--- an application of one argument
-pub one_argument : (read : SymbolReader Term) (w : List ℕ) (ts rest : List Sym) (t : Term) → 0 < length ts → read ts ≡ Some (t, rest) → after_comma rest ≡ None
-    → application read w ts ≡ sole_application w t rest
-unfolding application
-one_argument read w ts rest t some got none = rw (separated_alone after_comma read (length ts) ts rest t some got none) refl
-
--- an application of which nothing is read
-pub no_argument : (read : SymbolReader Term) (w : List ℕ) (ts : List Sym) → read ts ≡ None → application read w ts ≡ None
-unfolding application
-no_argument read w ts got = rw (separated_fails after_comma read (length ts) ts got) refl

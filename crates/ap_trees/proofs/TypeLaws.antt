@@ -3,10 +3,13 @@ use Rattle.std.proofs.Common.{◌≡◌, ℕ, zero, suc, ◌<◌, ◌≤◌, Lis
 use Rattle.ap_trees.specs.declared.outcome.ReadError.{ReadError}
 use Rattle.ap_trees.specs.Outcomes.{GivesPart}
 use Rattle.ap_trees.specs.Readers.{SymbolReader, ◌>>=◌, with_before, further, separated, after_comma, after_lambda, after_close, after_close_list, at_end}
-use Rattle.ap_trees.specs.Symbols.{Sym, Ident, Open, Close, OpenList, CloseList, Comma, Lambda}
+use Rattle.ap_trees.specs.declared.symbols.Symbol.{Symbol}
+use Rattle.ap_trees.specs.Symbols.{Sym, Ident, Open, Close, OpenList, CloseList, Comma, Lambda, syms, sym as symbol}
 use Rattle.ap_trees.specs.TypeGrammar.{IsType, AreTypes, word, abs, unit, group, array, sole, several}
-use Rattle.ap_trees.specs.TypeReader.{read_type, type_after_word, type_after_open, all_type}
+use Rattle.ap_trees.specs.TypeReader.{read_type, type_after_word, type_of_word, type_after_open, type_of_group, array_of, all_type}
 use Rattle.ap_trees.specs.Types.{Ty, Unit, Word, Array, Abs, tuple_type}
+use Rattle.std.proofs.lemmas.List.{length-map}
+use Rattle.ap_trees.proofs.Lists.{some_is}
 
 -- what holds after two steps
 pub bind_if : {A B : Type 0} (r : Option A) (f : A → Option B) (P : A → Type 0) (Q : B → Type 0) → IfSome r P → ((x : A) → P x → IfSome (f x) Q) → IfSome (r >>= f) Q
@@ -48,7 +51,7 @@ open_sound others sound ts = bind_if (others ts) _ _ _ (sound ts) (λ parts h. g
 
 -- What is read is in the grammar.
 pub type_sound : (n : ℕ) → Sound (read_type n)
-unfolding read_type
+unfolding read_type type_of_word type_of_group array_of
 type_sound zero ts = tt
 type_sound (suc n) (Ident w ∷ ts) = word_sound (read_type n) (type_sound n) w ts
 type_sound (suc n) (Open ∷ ts) = open_sound (separated after_comma (read_type n) (length ts)) (types_sound (read_type n) (type_sound n) (length ts)) ts
@@ -68,6 +71,12 @@ mutual
   types_shrink (sole h) = type_shrinks h
   types_shrink (several h g) = omega (arith, type_shrinks h, types_shrink g)
 
+-- What follows what is read is shorter.
+pub type_shorter : (n : ℕ) (ts us : List Symbol) (t : Ty) → read_type n (syms ts) ≡ Some (t, syms us) → length us < length ts
+type_shorter n ts us t got =
+    let h : IsType (syms ts) t (syms us) = some_is (read_type n (syms ts)) (t, syms us) (λ x. IsType (syms ts) x.0 x.1) got (type_sound n (syms ts)) in
+    omega (arith, type_shrinks h, length-map ts symbol, length-map us symbol)
+
 -- no type begins with `)`
 type_not_close : {ts rest : List Sym} {t : Ty} → IsType ts t rest → after_close ts ≡ None
 type_not_close word = refl
@@ -82,23 +91,23 @@ types_not_close (several h g) = type_not_close h
 
 -- one step of reading for each form
 read_word : (n : ℕ) (w : List ℕ) (ts : List Sym) → after_lambda ts ≡ None → read_type (suc n) (Ident w ∷ ts) ≡ Some (Word w, ts)
-unfolding read_type
+unfolding read_type type_of_word
 read_word n w ts ends = rw ends refl
 
 read_abs : (n : ℕ) (w : List ℕ) (ts rest : List Sym) (t : Ty) → read_type n ts ≡ Some (t, rest) → read_type (suc n) (Ident w ∷ Lambda ∷ ts) ≡ Some (Abs w t, rest)
-unfolding read_type
+unfolding read_type type_of_word
 read_abs n w ts rest t got = ap (λ r. r >>= (λ (body : Ty × List Sym). Some (Abs w body.0, body.1))) got
 
 read_unit : (n : ℕ) (ts : List Sym) → read_type (suc n) (Open ∷ Close ∷ ts) ≡ Some (Unit, ts)
-unfolding read_type
+unfolding read_type type_of_group
 read_unit n ts = refl
 
 read_group : (n : ℕ) (ts rest : List Sym) (parts : List Ty) → after_close ts ≡ None → separated after_comma (read_type n) (length ts) ts ≡ Some (parts, Close ∷ rest) → read_type (suc n) (Open ∷ ts) ≡ Some (tuple_type parts, rest)
-unfolding read_type
+unfolding read_type type_of_group
 read_group n ts rest parts other got = rw other (rw got refl)
 
 read_array : (n : ℕ) (ts rest : List Sym) (t : Ty) → read_type n ts ≡ Some (t, CloseList ∷ rest) → read_type (suc n) (OpenList ∷ ts) ≡ Some (Array t, rest)
-unfolding read_type
+unfolding read_type array_of
 read_array n ts rest t got = rw got refl
 
 module _ {A : Type 0} where

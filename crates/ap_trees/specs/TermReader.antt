@@ -1,7 +1,7 @@
 -- Reading a term.
 use Rattle.std.specs.Prelude.{ℕ, zero, suc, List, ◌∷◌, length, Option, None, Some}
 use Rattle.ap_trees.specs.Symbols.{Sym, Var, Ident, Swap, Open, OpenList}
-use Rattle.ap_trees.specs.Terms.{Name, Term, OfWord, OfVar, Unit, Variable, Word, Apply, Nil, Abs, Swapped, Last, argument_terms, tuple, cells}
+use Rattle.ap_trees.specs.Terms.{Name, Term, OfWord, OfVar, Unit, Variable, Word, Apply, Nil, Abs, Swapped, argument_terms, tuple, cells}
 use Rattle.ap_trees.specs.Readers.{SymbolReader, ◌>>=◌, separated, after_lambda, after_comma, after_open, after_close, after_close_list, after_bar, at_end}
 
 -- an abstraction, behind its binder
@@ -13,18 +13,23 @@ abstraction read name ts = do
 abbrev pub list_within : SymbolReader Term → SymbolReader (List Term)
 list_within read ts = separated after_comma read (length ts) ts
 
+-- a term before the `)` that closes it
+abbrev pub before_close : Term → SymbolReader Term
+before_close t ts = do
+  rest ← after_close ts
+  Some (t, rest)
+
+-- a term before the `]` that closes it
+abbrev pub before_close_list : Term → SymbolReader Term
+before_close_list t ts = do
+  rest ← after_close_list ts
+  Some (t, rest)
+
 -- an application, behind its bracket
 unfoldable pub application : SymbolReader Term → List ℕ → SymbolReader Term
 application read w ts = do
   parts ← list_within read ts
-  rest ← after_close parts.1
-  Some (Apply w (argument_terms parts.0), rest)
-
--- an application of one argument, behind that
-abbrev pub sole_application : List ℕ → Term → SymbolReader Term
-sole_application w t ts = do
-  rest ← after_close ts
-  Some (Apply w (Last t), rest)
+  before_close (Apply w (argument_terms parts.0)) parts.1
 
 abbrev pub word_or_more : SymbolReader Term → List ℕ → List Sym → Option (List Sym) → Option (List Sym) → Option (Term × List Sym)
 word_or_more read w ts (Some us) other = abstraction read (OfWord w) us
@@ -45,8 +50,7 @@ abbrev pub unit_or_tuple : SymbolReader Term → List Sym → Option (List Sym) 
 unit_or_tuple read ts (Some us) = Some (Unit, us)
 unit_or_tuple read ts None = do
   parts ← list_within read ts
-  rest ← after_close parts.1
-  Some (tuple parts.0, rest)
+  before_close (tuple parts.0) parts.1
 
 unfoldable pub group : SymbolReader Term → SymbolReader Term
 group read ts = unit_or_tuple read ts (after_close ts)
@@ -63,8 +67,7 @@ unfoldable pub full_list : SymbolReader Term → SymbolReader Term
 full_list read ts = do
   parts ← list_within read ts
   end ← list_end read parts.1
-  rest ← after_close_list end.1
-  Some (cells parts.0 end.0, rest)
+  before_close_list (cells parts.0 end.0) end.1
 
 abbrev pub nil_or_list : SymbolReader Term → List Sym → Option (List Sym) → Option (Term × List Sym)
 nil_or_list read ts (Some us) = Some (Nil, us)
@@ -86,15 +89,20 @@ side ts = do
   rest ← after_comma name.1
   Some (name.0, rest)
 
--- a swapping, behind `swap`
-unfoldable pub swapped : SymbolReader Term → SymbolReader Term
-swapped read ts = do
+-- the two sides of a swapping, behind `swap`
+unfoldable pub both_sides : SymbolReader (Name × Name)
+both_sides ts = do
   inside ← after_open ts
   left ← side inside
   right ← side left.1
-  body ← read right.1
-  rest ← after_close body.1
-  Some (Swapped left.0 right.0 body.0, rest)
+  Some ((left.0, right.0), right.1)
+
+-- a swapping, behind `swap`
+unfoldable pub swapped : SymbolReader Term → SymbolReader Term
+swapped read ts = do
+  both ← both_sides ts
+  body ← read both.1
+  before_close (Swapped both.0.0 both.0.1 body.0) body.1
 
 -- a term; the number falls at each level
 unfoldable pub read_term : ℕ → SymbolReader Term

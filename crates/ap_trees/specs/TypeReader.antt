@@ -10,6 +10,10 @@ type_after_word read word ts (Some us) = do
   body ← read us
   Some (Abs word body.0, body.1)
 
+-- a word, alone or as the name type of an abstraction
+unfoldable pub type_of_word : SymbolReader Ty → List ℕ → SymbolReader Ty
+type_of_word read word ts = type_after_word read word ts (after_lambda ts)
+
 abbrev pub type_after_open : SymbolReader (List Ty) → List Sym → Option (List Sym) → Option (Ty × List Sym)
 type_after_open read ts (Some us) = Some (Unit, us)
 type_after_open read ts None = do
@@ -17,14 +21,23 @@ type_after_open read ts None = do
   rest ← after_close parts.1
   Some (tuple_type parts.0, rest)
 
-unfoldable pub read_type : ℕ → SymbolReader Ty
-read_type zero ts = None
-read_type (suc n) (Ident word ∷ ts) = type_after_word (read_type n) word ts (after_lambda ts)
-read_type (suc n) (Open ∷ ts) = type_after_open (separated after_comma (read_type n) (length ts)) ts (after_close ts)
-read_type (suc n) (OpenList ∷ ts) = do
-  element ← read_type n ts
+-- what stands in parentheses
+unfoldable pub type_of_group : SymbolReader Ty → SymbolReader Ty
+type_of_group read ts = type_after_open (separated after_comma read (length ts)) ts (after_close ts)
+
+-- the type of lists, behind its bracket
+unfoldable pub array_of : SymbolReader Ty → SymbolReader Ty
+array_of read ts = do
+  element ← read ts
   rest ← after_close_list element.1
   Some (Array element.0, rest)
+
+-- a type; the number falls at each level
+unfoldable pub read_type : ℕ → SymbolReader Ty
+read_type zero ts = None
+read_type (suc n) (Ident word ∷ ts) = type_of_word (read_type n) word ts
+read_type (suc n) (Open ∷ ts) = type_of_group (read_type n) ts
+read_type (suc n) (OpenList ∷ ts) = array_of (read_type n) ts
 read_type (suc n) ts = None
 
 -- the type that all the symbols spell

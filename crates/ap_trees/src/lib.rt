@@ -5,16 +5,19 @@
 //! grammars; they know nothing of the code.
 #![tactic(auto)]
 
+mod building;
 mod cursor;
 mod outcome;
+mod sides;
 mod symbols;
 mod terms;
 mod trees;
 mod types;
 
+pub use building::applied;
 pub use cursor::{after_bar, after_close, after_close_list, after_comma, after_lambda, after_open};
 pub use outcome::ReadError;
 pub use symbols::{Symbol, symbols_of};
-pub use terms::{applied, term, term_list, whole_term};
+pub use terms::{term, term_list, whole_term};
 pub use trees::{Args, Binder, Form, GoalTree, Item, Sides, Tree, TypeTree};
 pub use types::{type_list, type_tree, whole_type};

@@ -7,7 +7,7 @@ use ap_lexer::{Token, TokenKind};
 use std::alloc::{AllocError, Global};
 
 /// A token without its place; a reserved word or a mark without its text.
-#[derive(Clone, Copy, PartialEq, Eq)]
+#[derive(Clone, Copy)]
 pub enum Symbol<'a> {
     Var(&'a str),
     Ident(&'a str),

@@ -5,14 +5,14 @@
 use ap_defs::lists::List;
 
 /// What stands left of `\` or as one of the two sides of a swapping.
-#[derive(Clone, Copy, Debug, PartialEq, Eq)]
+#[derive(Clone, Copy)]
 pub enum Binder<'a> {
     Word(&'a str),
     Var(&'a str),
 }
 
 /// The two sides of a swapping.
-#[derive(Clone, Copy, Debug, PartialEq, Eq)]
+#[derive(Clone, Copy)]
 pub struct Sides<'a> {
     pub left: Binder<'a>,
     pub right: Binder<'a>,
@@ -20,7 +20,6 @@ pub struct Sides<'a> {
 
 /// The arguments of an application, of which there is one at least.
 #[cycle(tree)]
-#[derive(Debug)]
 pub enum Args<'a> {
     Last(Tree<'a>),
     More(Tree<'a>, Box<Args<'a>>),
@@ -28,7 +27,6 @@ pub enum Args<'a> {
 
 /// A term as it is written. A word alone is a name or a constructor.
 #[cycle(tree)]
-#[derive(Debug)]
 pub enum Tree<'a> {
     Unit,
     Var(&'a str),
@@ -71,7 +69,6 @@ impl Drop for Tree<'_> {
 }
 
 /// A type as it is written. A word is a name type or a data type.
-#[derive(Debug)]
 pub enum TypeTree<'a> {
     Unit,
     Word(&'a str),
@@ -94,7 +91,6 @@ impl Drop for TypeTree<'_> {
 }
 
 /// A goal as it is written.
-#[derive(Debug)]
 pub enum GoalTree<'a> {
     Atom(&'a str, List<Tree<'a>>),
     Equal(Tree<'a>, Tree<'a>),
@@ -122,7 +118,7 @@ impl Drop for GoalTree<'_> {
 }
 
 /// What an item says.
-#[derive(Debug, Drop)]
+#[derive(Drop)]
 pub enum Form<'a> {
     /// A name type is declared.
     NameType(&'a str),
@@ -139,7 +135,7 @@ pub enum Form<'a> {
 }
 
 /// An item, and the line of its first token.
-#[derive(Debug, Drop)]
+#[derive(Drop)]
 pub struct Item<'a> {
     pub line: u64,
     pub form: Form<'a>,

@@ -17,3 +17,11 @@ pub mod JoinLemmas
 pub mod WalkLemmas
 pub mod WritingLemmas
 pub mod SettledLemmas
+pub mod ChoiceLemmas
+pub mod DataLemmas
+pub mod WantLemmas
+pub mod StepLemmas
+pub mod PickLemmas
+pub mod LeastRuleLemmas
+pub mod LeastLemmas
+pub mod TermLemmas

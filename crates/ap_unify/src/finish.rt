@@ -3,7 +3,7 @@
 ghost use Rattle.std.specs.Prelude.{◌≡◌, ◌++◌, true, Some, IfOk, length, map};
 ghost use Rattle.ap_defs.specs.Freshness.{Conds};
 ghost use Rattle.ap_defs.specs.Unification.{problem_of, reduce_all};
-ghost use Rattle.ap_fresh.specs.Reduction.{added};
+ghost use Rattle.ap_perm.specs.Reduction.{added};
 ghost use Rattle.ap_store.specs.Triples.{AreOnUnbound, IsPrefixOf};
 ghost use Rattle.ap_store.specs.Views.{bindings_of, kinds, present, versions};
 ghost use Rattle.ap_theory.specs.StatementsOnConditions.{collected};
@@ -13,7 +13,7 @@ ghost use Rattle.ap_rules.specs.Work.{problem_for, problems_met};
 use crate::reducing::{reduce_closure, reduce_var};
 use ap_defs::memory::Memory;
 use ap_defs::terms::Cond;
-use ap_fresh::sets::make_set;
+use ap_perm::sets::make_set;
 use ap_rules::pairs::{FreshFor, Work};
 use ap_store::store::Store;
 use std::alloc::Global;

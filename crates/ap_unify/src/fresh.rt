@@ -14,8 +14,8 @@ ghost use Rattle.ap_unify.specs.Unified.{AreVarsBelow, IsReduced};
 use crate::reducing::{reduce_closure, reduce_vars};
 use ap_defs::memory::Memory;
 use ap_defs::terms::{Name, Var};
-use ap_fresh::sets::make_set;
 use ap_perm::closures::Closure;
+use ap_perm::sets::make_set;
 use ap_store::store::Store;
 use std::alloc::Global;
 

@@ -48,7 +48,7 @@ fn look_at<'a>(store: &Store<'a>, p: Plain<'a>) -> Look<'a>
         Term::Name(_) => Look::Form,
         Term::Pair(_, _) => Look::Form,
         Term::App(_, _) => Look::Form,
-        Term::Abs(_, _) => Look::Form,
+        Term::Abs(_, _, _) => Look::Form,
         Term::Susp(q, x) => {
             if !q.items().is_empty() {
                 return Look::Other;

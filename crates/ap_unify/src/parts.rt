@@ -207,8 +207,16 @@ fn forms(ahead: &mut Ahead<'_>) -> Turn
                 Turn::Clash
             }
         }
-        (Term::Abs(a, t), Term::Abs(b, u)) => {
-            if same_name(left, *a, right, *b) {
+        (Term::Abs(sort, num, t), Term::Abs(other_sort, other_num, u)) => {
+            let a = Name {
+                sort: *sort,
+                num: *num,
+            };
+            let b = Name {
+                sort: *other_sort,
+                num: *other_num,
+            };
+            if same_name(left, a, right, b) {
                 ahead.next = terms_of(pair, t, u);
                 Turn::On
             } else {

@@ -8,7 +8,7 @@ use Rattle.std.specs.Str.Parse.{digits_value}
 use Rattle.ap_bundle.specs.declared.version.Version.{Version}
 use Rattle.ap_bundle.specs.declared.version.Version.TheVariants as version
 use Rattle.ap_defs.specs.Limits.{greatest_depth, most_workers, within}
-use Rattle.ap_gen.specs.Sizes.{most_queries}
+use Rattle.ap_words.specs.Sizes.{most_queries}
 use Rattle.ap_paths.specs.declared.limits.Limit.{Limit}
 use Rattle.ap_paths.specs.declared.limits.Limit.TheVariants as limits
 use Rattle.ap_words.specs.declared.Asked.{Asked}

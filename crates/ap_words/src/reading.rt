@@ -2,14 +2,13 @@
 ghost use Rattle.std.specs.Prelude.{◌≡◌, IfOk, map, string_bytes};
 ghost use Rattle.ap_words.specs.Words.{asked_by, asked_of, asked_together, asked_with, command_of, depth_in, limit_in, seed_in, size_in, version_in, workers_in};
 
-use crate::Asked;
 use crate::program::is_taken;
 use crate::settings::{Setting, complete, number_of, read_settings};
 use crate::table::{CommandName, OptionName};
+use crate::{Asked, Size};
 use ap_bundle::version::Version;
 use ap_defs::limits::{Depth, Workers};
 use ap_defs::memory::Memory;
-use ap_gen::Size;
 use ap_paths::Limit;
 use std::alloc::Global;
 

@@ -5,7 +5,6 @@ ghost use Rattle.ap_backchain.specs.Problems.{HasQuery};
 
 use ap_backchain::problem::Problem;
 use ap_backchain::run::Paths;
-use ap_core::{Core, Event, play};
 use ap_defs::limits::SIZE_LIMIT;
 use ap_defs::lists::List;
 use ap_defs::memory::Memory;
@@ -14,6 +13,7 @@ use ap_paths::Limit;
 use ap_program::restricted::Restricted;
 use ap_replay::problem_tree::ProblemTree;
 use ap_text::program_of_text;
+use ap_tools::{Core, Event, play};
 use std::alloc::Global;
 
 /// The query has an answer at [1] and one at [2].

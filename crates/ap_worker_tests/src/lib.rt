@@ -1,17 +1,16 @@
-//! Tests of streams, `ap_io`, of paths, books and workers, `ap_paths`, `ap_book`, `ap_core`, `ap_tasks`, `ap_lock` and
-//! `ap_steal`, of trees of queries, `ap_replay`, of indices, `ap_index`, of counts of uses, `ap_count`, and of the top call, `ap_top`.
+//! Tests of streams, `ap_io`, of paths, books and workers, `ap_paths`, `ap_book`, `ap_tools` and
+//! `ap_steal`, of trees of queries, `ap_replay`, of texts that are made from a number, `ap_words`, and of the top call with
+//! two workers, `ap_top`.
 #![tactic(auto)]
 
 #[cfg(test)]
 mod book;
 #[cfg(test)]
-mod clause_uses;
-#[cfg(test)]
 mod events;
 #[cfg(test)]
 mod first_answers;
 #[cfg(test)]
-mod index;
+mod generated;
 #[cfg(test)]
 mod lock;
 #[cfg(test)]
@@ -28,5 +27,3 @@ mod streams;
 mod tasks;
 #[cfg(test)]
 mod top_call;
-#[cfg(test)]
-mod visits;

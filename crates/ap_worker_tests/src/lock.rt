@@ -1,13 +1,13 @@
 ghost use Rattle.std.specs.Prelude.{◌≡◌, ◌∷◌, [], All, vec_len, IfOk};
-ghost use Rattle.ap_lock.specs.Seats.{book_id, seats_of};
+ghost use Rattle.ap_tools.specs.Seats.{book_id, seats_of};
 
 use crate::book::answer_at;
 use crate::pairs::cut_at;
 use ap_book::{BookError, SkipError};
 use ap_defs::memory::Memory;
 use ap_defs::paths::{Path, Progress};
-use ap_lock::{Seat, SharedBook};
 use ap_paths::{Closed, Limit};
+use ap_tools::{Seat, SharedBook};
 use std::alloc::Global;
 use std::sync::Wait;
 use std::thread;

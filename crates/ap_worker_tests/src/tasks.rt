@@ -1,8 +1,8 @@
 ghost use Rattle.std.specs.Prelude.{◌≡◌, ◌≤◌, ◌∷◌, [], IfOk, OnOk};
-ghost use Rattle.ap_tasks.specs.Owners.{owner_deque};
+ghost use Rattle.ap_tools.specs.Owners.{owner_deque};
 
 use ap_defs::memory::Memory;
-use ap_tasks::{Owner, Placed, Shape, Stolen, Thief, tasks};
+use ap_tools::{Owner, Placed, Shape, Stolen, Thief, tasks};
 use std::alloc::Global;
 
 // Each path has three choices.

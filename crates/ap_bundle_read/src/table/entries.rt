@@ -13,7 +13,7 @@ use crate::numbers::{a_name, first_number, small, swaps};
 use crate::place::{Place, words_at, wrong};
 use ap_bundle::faults::BundleKind;
 use ap_bundle::words::{Head, Letter, Word};
-use ap_defs::lists::List;
+use ap_defs::lists::Swaps;
 use ap_defs::memory::Memory;
 use ap_defs::terms::Var;
 use ap_shared::arena::SharedTerms;
@@ -123,7 +123,7 @@ fn susp_entry(
         return Ok(None);
     };
     if numbers.is_empty() {
-        let front = Box::new(alloc, List::of(front))?;
+        let front = Swaps::of(alloc, front)?;
         Ok(Some(Entry::Susp(front, Var { num })))
     } else {
         Ok(None)

@@ -1,7 +1,7 @@
 //! Deques that are made and dropped.
 
 use ap_defs::memory::Memory;
-use ap_tasks::tasks;
+use ap_tools::tasks;
 use std::alloc::{AllocError, Global};
 use std::marker::Brand;
 

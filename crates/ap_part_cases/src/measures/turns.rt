@@ -1,11 +1,11 @@
 //! Turns of a shared book, where nobody else wants one.
 
 ghost use Rattle.std.specs.Prelude.{◌≡◌, IfOk};
-ghost use Rattle.ap_lock.specs.Seats.{book_id};
+ghost use Rattle.ap_tools.specs.Seats.{book_id};
 
 use ap_defs::memory::Memory;
-use ap_lock::{Seat, SharedBook};
 use ap_paths::Limit;
+use ap_tools::{Seat, SharedBook};
 use std::alloc::{AllocError, Global};
 use std::sync::Wait;
 

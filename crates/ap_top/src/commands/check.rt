@@ -1,13 +1,13 @@
 // `check`, which checks the derivations of a bundle.
 ghost use Rattle.std.specs.Prelude.{IfOk};
 ghost use Rattle.ap_report.specs.declared.report.Report.{Report};
-ghost use Rattle.ap_bundle_check.specs.Reports.{IsCheckReport};
+ghost use Rattle.ap_bundle_commands.specs.CheckReports.{IsCheckReport};
 ghost use Rattle.ap_top.specs.Report.{Input, IsOnlyReport, IsReportOn};
 ghost use Rattle.ap_top.specs.Run.{IsRead};
 
 use crate::lines::line;
 use crate::reading::{ReadError, read_whole};
-use ap_bundle_check::check_bytes;
+use ap_bundle_commands::check_bytes;
 use ap_defs::memory::Memory;
 use ap_io::Source;
 use ap_report::{Report, Status};

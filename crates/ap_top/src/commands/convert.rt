@@ -1,14 +1,14 @@
 // `convert`, which writes a bundle in another version.
 ghost use Rattle.std.specs.Prelude.{IfOk};
 ghost use Rattle.ap_report.specs.declared.report.Report.{Report};
-ghost use Rattle.ap_bundle_convert.specs.Reports.{IsConvertReport};
+ghost use Rattle.ap_bundle_commands.specs.ConvertReports.{IsConvertReport};
 ghost use Rattle.ap_top.specs.Report.{Input, IsOnlyReport, IsReportOn};
 ghost use Rattle.ap_top.specs.Run.{IsRead};
 
 use crate::lines::line;
 use crate::reading::{ReadError, read_whole};
 use ap_bundle::version::Version;
-use ap_bundle_convert::convert_bytes;
+use ap_bundle_commands::convert_bytes;
 use ap_defs::memory::Memory;
 use ap_io::Source;
 use ap_report::{Report, Status};

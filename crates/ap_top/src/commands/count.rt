@@ -1,7 +1,7 @@
 // `count`, which counts how often each clause of a text is used.
 ghost use Rattle.std.specs.Prelude.{IfOk};
 ghost use Rattle.ap_report.specs.declared.report.Report.{Report};
-ghost use Rattle.ap_uses.specs.Reports.{IsCountReport};
+ghost use Rattle.ap_text_commands.specs.CountReports.{IsCountReport};
 ghost use Rattle.ap_top.specs.Report.{Input, IsOnlyReport, IsReportOn};
 ghost use Rattle.ap_top.specs.Run.{IsRead};
 
@@ -11,7 +11,7 @@ use ap_defs::limits::{Depth, Workers};
 use ap_defs::memory::Memory;
 use ap_io::{Gate, Source};
 use ap_report::{Report, Status};
-use ap_uses::count_text;
+use ap_text_commands::count_text;
 use std::alloc::Global;
 use std::sync::Wait;
 use std::thread::Threads;

@@ -1,13 +1,13 @@
 // `cover`, which tells what covers each ground proof of a bundle.
 ghost use Rattle.std.specs.Prelude.{IfOk};
 ghost use Rattle.ap_report.specs.declared.report.Report.{Report};
-ghost use Rattle.ap_bundle_cover.specs.Reports.{IsCoverReport};
+ghost use Rattle.ap_bundle_commands.specs.CoverReports.{IsCoverReport};
 ghost use Rattle.ap_top.specs.Report.{Input, IsOnlyReport, IsReportOn};
 ghost use Rattle.ap_top.specs.Run.{IsRead};
 
 use crate::lines::line;
 use crate::reading::{ReadError, read_whole};
-use ap_bundle_cover::cover_bytes;
+use ap_bundle_commands::cover_bytes;
 use ap_defs::limits::{Depth, Workers};
 use ap_defs::memory::Memory;
 use ap_io::{Gate, Source};

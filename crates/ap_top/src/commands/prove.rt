@@ -1,18 +1,18 @@
 // `prove`, which writes the answers of a text's queries with their derivations.
 ghost use Rattle.std.specs.Prelude.{IfOk};
 ghost use Rattle.ap_report.specs.declared.report.Report.{Report};
-ghost use Rattle.ap_bundle_prove.specs.Reports.{IsProveReport};
+ghost use Rattle.ap_text_commands.specs.ProveReports.{IsProveReport};
 ghost use Rattle.ap_top.specs.Report.{Input, IsOnlyReport, IsReportOn};
 ghost use Rattle.ap_top.specs.Run.{IsRead};
 
 use crate::lines::line;
 use crate::reading::{ReadError, read_whole};
-use ap_bundle_prove::prove_text;
 use ap_defs::limits::{Depth, Workers};
 use ap_defs::memory::Memory;
 use ap_io::{Gate, Source};
 use ap_paths::Limit;
 use ap_report::{Report, Status};
+use ap_text_commands::prove_text;
 use std::alloc::Global;
 use std::sync::Wait;
 use std::thread::Threads;

@@ -1,17 +1,22 @@
-use Rattle.std.proofs.Common.{List, map, ap, ◌∙◌, ◌≡◌, subst}
-use Rattle.std.specs.Prelude.{IfOk, IfSome}
+use Rattle.std.proofs.Common.{List, map, ap, ◌∙◌, ◌≡◌, ◌<◌, subst}
+use Rattle.std.specs.Prelude.{IfOk, IfSome, None}
 use Rattle.ap_defs.specs.Answers.{NominalOut, outs_of}
 use Rattle.ap_defs.specs.Goals.{program_in}
 use Rattle.ap_defs.specs.Types.{locals_of}
 use Rattle.ap_paths.specs.Limits.{part}
 use Rattle.ap_backchain.specs.Ends.{kept_out}
+use Rattle.ap_backchain.specs.Turns.{few_turns, turns_from}
 use Rattle.ap_machine.specs.Machines.{position_of}
 use Rattle.ap_machine.specs.Positions.{Position, outs_from}
 use Rattle.ap_backchain.proofs.run.outputs_of_short_query.Goals as goal
 
-pub returns : goal.returns
-returns c =
+pub returns-clause-outs : goal.returns-clause-outs
+returns-clause-outs c =
     let program = program_in c.args.clauses.now in
     subst (λ (os : List NominalOut). IfOk c.outputs_soon.result (λ o. IfSome o (λ v. outs_of v.items ≡ os)))
     (ap (λ ls. map (kept_out c.args.paths) (part c.args.limit (outs_from program (locals_of ls) (position_of c.in_ok-first.first)))) c.items.ensures
-    ∙ ap (λ (p : Position). map (kept_out c.args.paths) (part c.args.limit (outs_from program (locals_of c.args.query.now.locals) p))) c.in_ok-first.ensures) c.outputs_soon.ensures
+    ∙ ap (λ (p : Position). map (kept_out c.args.paths) (part c.args.limit (outs_from program (locals_of c.args.query.now.locals) p))) c.in_ok-first.ensures) c.outputs_soon.ensures.outs
+
+pub returns-clause-many : goal.returns-clause-many
+returns-clause-many c =
+    subst (λ (p : Position). IfOk c.outputs_soon.result (λ o. o ≡ None → few_turns < turns_from (program_in c.args.clauses.now) p)) c.in_ok-first.ensures c.outputs_soon.ensures.many

@@ -1,4 +1,4 @@
-use Rattle.std.proofs.Common.{◌≡◌, true, [], map, ap, ◌∙◌, sym}
+use Rattle.std.proofs.Common.{◌≡◌, true, [], map, refl, ap, ◌∙◌, sym, arith}
 use Rattle.std.specs.Prelude.{reverse}
 use Rattle.ap_defs.specs.Answers.{outs_of}
 use Rattle.ap_defs.specs.Goals.{program_in}
@@ -9,12 +9,12 @@ use Rattle.ap_machine.specs.Machines.{position_of, track_of}
 use Rattle.ap_backchain.specs.ChoicePoints.{positions_pending}
 use Rattle.ap_machine.specs.Positions.{outs_from, outs_from_each, turned}
 use Rattle.ap_backchain.specs.Searches.{positions_followed, pending_positions, positions_with}
-use Rattle.ap_backchain.proofs.SearchLemmas.{turn_keeps}
+use Rattle.ap_backchain.proofs.SearchLemmas.{turn_keeps, turn_lessens}
 use Rattle.ap_backchain.proofs.WantedLemmas.{nothing_left, nothing_wanted}
 use Rattle.ap_backchain.proofs.run.outputs_soon.Goals as goal
 
-pub returns-then-not-branch : goal.returns-then-not-branch
-returns-then-not-branch c =
+pub returns-then-not-branch-clause-outs : goal.returns-then-not-branch-clause-outs
+returns-then-not-branch-clause-outs c =
     let program = program_in c.args.clauses.now in
     let locals = locals_of c.args.locals.now in
     let kept = kept_out c.args.paths in
@@ -42,11 +42,13 @@ searching-preserved c =
           (ap (λ b. positions_with b c.go_on.new.machine c.go_on.new.points) (sym c.if-not-branch.false) ∙ c.in_ok-go_on.ensures.left)
           c.in_ok-go_on.ensures.wanted c.in_ok-go_on.ensures.outs c.searching.invariant.all;
       points = c.in_ok-go_on.ensures.points;
+      count = (let fewer = turn_lessens program locals kept (position_of c.searching.machine) (pending_positions c.searching.machine c.searching.points) (positions_with true c.go_on.new.machine c.go_on.new.points)
+          (ap (λ b. positions_with b c.go_on.new.machine c.go_on.new.points) (sym c.if-not-branch.false) ∙ c.in_ok-go_on.ensures.left) in let count = c.searching.invariant.count in omega (arith, fewer, count));
     }
 
 -- no more answers are wanted
-pub returns-then-not-is_wanting : goal.returns-then-not-is_wanting
-returns-then-not-is_wanting c =
+pub returns-then-not-is_wanting-clause-outs : goal.returns-then-not-is_wanting-clause-outs
+returns-then-not-is_wanting-clause-outs c =
     let program = program_in c.args.clauses.now in
     let locals = locals_of c.args.locals.now in
     let kept = kept_out c.args.paths in
@@ -54,3 +56,15 @@ returns-then-not-is_wanting c =
     (outs_from_each program locals (positions_with true c.searching.machine c.searching.points))
     (map kept (part c.args.limit (outs_from program locals (position_of c.args.first))))
     (c.is_wanting.ensures.no c.if-not-is_wanting.true) c.searching.invariant.all
+
+-- what is left takes one turn at least
+pub returns-clause-many : goal.returns-clause-many
+returns-clause-many c =
+    λ none.
+    let program = program_in c.args.clauses.now in
+    let locals = locals_of c.args.locals.now in
+    let p = position_of c.searching.machine in
+    let ps = pending_positions c.searching.machine c.searching.points in
+    let some = turn_lessens program locals (kept_out c.args.paths) p ps (positions_followed (turned program locals p) ps) refl in
+    let count = c.searching.invariant.count in
+    omega (arith, some, count)

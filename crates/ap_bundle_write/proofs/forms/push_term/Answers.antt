@@ -51,13 +51,13 @@ pub loop-next-preserved-in-Continue-branch-13 : goal.loop-next-preserved-in-Cont
 loop-next-preserved-in-Continue-branch-13 c =
     let left = later_one term_words term_of c.push-in-Abs-2.new.self.items c.pop.new.self.items c.deref-in-Abs.result c.in_ok-push-in-Abs-2.ensures.items in
     let e = ap (λ t. term_words (term_of t)) c.in-Abs.is in
-    kept_all term_words term_of _ _ c.push-in-Abs-2.new.self.items c.in-Some.next _ _ (word.Letter letter.L ∷ name_words c.in-Abs.name) _ _ c.in-Some.ensures.items (both_written c.loop-next.words.items c.push-in-Abs.new.self.items c.push_name-in-Abs.new.words.items (word.Letter letter.L ∷ []) (name_words c.in-Abs.name) c.in_ok-push-in-Abs.ensures.items c.in_ok-push_name-in-Abs.ensures) left (rw c.deref-in-Abs.ensures e) c.loop-next.invariant
+    kept_all term_words term_of _ _ c.push-in-Abs-2.new.self.items c.in-Some.next _ _ (word.Letter letter.L ∷ name_words (record { sort = c.in-Abs.sort; num = c.in-Abs.num })) _ _ c.in-Some.ensures.items (both_written c.loop-next.words.items c.push-in-Abs.new.self.items c.push_name-in-Abs.new.words.items (word.Letter letter.L ∷ []) (name_words (record { sort = c.in-Abs.sort; num = c.in-Abs.num })) c.in_ok-push-in-Abs.ensures.items c.in_ok-push_name-in-Abs.ensures) left (rw c.deref-in-Abs.ensures e) c.loop-next.invariant
 
 pub loop-next-smaller-in-Continue-branch-13 : goal.loop-next-smaller-in-Continue-branch-13
 loop-next-smaller-in-Continue-branch-13 c =
     let left = later_one term_words term_of c.push-in-Abs-2.new.self.items c.pop.new.self.items c.deref-in-Abs.result c.in_ok-push-in-Abs-2.ensures.items in
     let e = ap (λ t. term_words (term_of t)) c.in-Abs.is in
-    less_left term_words term_of _ _ c.push-in-Abs-2.new.self.items c.in-Some.next (word.Letter letter.L ∷ name_words c.in-Abs.name) _ c.in-Some.ensures.items left (rw c.deref-in-Abs.ensures e) (lit< tt)
+    less_left term_words term_of _ _ c.push-in-Abs-2.new.self.items c.in-Some.next (word.Letter letter.L ∷ name_words (record { sort = c.in-Abs.sort; num = c.in-Abs.num })) _ c.in-Some.ensures.items left (rw c.deref-in-Abs.ensures e) (lit< tt)
 
 pub loop-next-preserved : goal.loop-next-preserved
 loop-next-preserved c =

@@ -34,9 +34,9 @@ pub loop-rest-preserved : goal.loop-rest-preserved
 loop-rest-preserved t c =
     let act = act_term c.args.swaps.now in
     let part = term_of c.deref-rest-in-Abs.result.now in
-    let e : term_of c.loop-rest.rest.now ≡ abs c.in-Abs.a part = ap term_of c.in-Abs.is ∙ ap (λ (u : Term). abs c.in-Abs.a (term_of u)) (sym c.deref-rest-in-Abs.ensures) in
+    let e : term_of c.loop-rest.rest.now ≡ abs (record { sort = c.in-Abs.sort; num = c.in-Abs.num }) part = ap term_of c.in-Abs.is ∙ ap (λ (u : Term). abs (record { sort = c.in-Abs.sort; num = c.in-Abs.num }) (term_of u)) (sym c.deref-rest-in-Abs.ensures) in
     let k : act (term_of c.loop-rest.rest.now) ≡ abs c.image-in-Abs.result (act part) = ap act e ∙ ap (λ b. abs b (act part)) (sym c.image-in-Abs.ensures) in
     record {
       all = term_goes_in c.loop-rest.layers.items c.push-in-Abs.new.self.items (around.Abs c.image-in-Abs.result) _ (act part) _ c.in_ok-push-in-Abs.ensures.items k c.loop-rest.invariant.all;
-      smaller = term_smaller (around.Abs c.in-Abs.a) _ part _ e c.loop-rest.invariant.smaller;
+      smaller = term_smaller (around.Abs (record { sort = c.in-Abs.sort; num = c.in-Abs.num })) _ part _ e c.loop-rest.invariant.smaller;
     }

@@ -1,7 +1,7 @@
 use Rattle.std.proofs.Common.{◌≡◌, ◌∙◌, List, map, ap, ap₂, subst}
 use Rattle.ap_cover.specs.Ground.{ground_terms}
-use Rattle.ap_covering.specs.Matched.{given_by, matched_each}
-use Rattle.ap_covering.specs.StatementsOnMatching.{matched_with}
+use Rattle.ap_cover.specs.Matched.{given_by, matched_each}
+use Rattle.ap_cover.specs.StatementsOnMatching.{matched_with}
 use Rattle.ap_defs.specs.declared.terms.Swap.{Swap}
 use Rattle.ap_defs.specs.declared.terms.Term.{Term}
 use Rattle.ap_defs.specs.declared.terms.Ty.{Ty}

@@ -1,7 +1,8 @@
 use Rattle.std.proofs.Common.{◌≡◌, ◌∙◌, ◌++◌, List, map, ap, ap₂, sym, subst}
 use Rattle.ap_cover.specs.Ground.{is_ground_term}
-use Rattle.ap_covering.specs.Matched.{given_by}
+use Rattle.ap_cover.specs.Matched.{given_by}
 use Rattle.ap_defs.specs.declared.spines.TermLayer.TheVariants as around
+use Rattle.ap_defs.specs.declared.terms.Name.{Name}
 use Rattle.ap_defs.specs.declared.terms.Swap.{Swap}
 use Rattle.ap_defs.specs.declared.terms.Term.{Term}
 use Rattle.ap_defs.specs.declared.terms.Var.{Var}
@@ -52,16 +53,18 @@ matching-preserved-in-Pair-there t c =
 
 pub matching-preserved : goal.matching-preserved
 matching-preserved t c =
+    let a : Name = record { sort = c.in-Abs-Abs.sort; num = c.in-Abs-Abs.num } in
+    let b : Name = record { sort = c.in-Abs-Abs.other_sort; num = c.in-Abs-Abs.other_num } in
     let swaps = c.args.swaps.now in
     let F : Grounding → Var → NominalTerm = λ other y. gives c.args.picks.now (given_by (matched_under swaps (term_of c.args.term.now) c.args.acting.now (term_of c.args.beside.now)) other) y in
     let part = term_of c.deref-rest-in-Abs-Abs.result.now in
     let inside = term_of c.deref-there-in-Abs-Abs.result.now in
-    let e : term_of c.matching.rest.now ≡ abs c.in-Abs-Abs.a part = ap term_of c.in-Abs-Abs.is-0 ∙ ap (λ (u : Term). abs c.in-Abs-Abs.a (term_of u)) (sym c.deref-rest-in-Abs-Abs.ensures) in
-    let k : term_of c.matching.there.now ≡ abs c.in-Abs-Abs.b inside = ap term_of c.in-Abs-Abs.is-1 ∙ ap (λ (u : Term). abs c.in-Abs-Abs.b (term_of u)) (sym c.deref-there-in-Abs-Abs.ensures) in
+    let e : term_of c.matching.rest.now ≡ abs a part = ap term_of c.in-Abs-Abs.is-0 ∙ ap (λ (u : Term). abs a (term_of u)) (sym c.deref-rest-in-Abs-Abs.ensures) in
+    let k : term_of c.matching.there.now ≡ abs b inside = ap term_of c.in-Abs-Abs.is-1 ∙ ap (λ (u : Term). abs b (term_of u)) (sym c.deref-there-in-Abs-Abs.ensures) in
     record {
       many = c.matching.invariant.many;
       closed = sym (ap is_ground_term k) ∙ c.matching.invariant.closed;
-      all = left_abs swaps F (term_of c.matching.rest.now) (term_of c.matching.there.now) part inside c.in-Abs-Abs.a c.in-Abs-Abs.b c.matching.inner.items c.go_below.new.acting.items c.matching.picks e k
+      all = left_abs swaps F (term_of c.matching.rest.now) (term_of c.matching.there.now) part inside a b c.matching.inner.items c.go_below.new.acting.items c.matching.picks e k
           c.in_ok-go_below-in-Abs-Abs.ensures c.matching.invariant.all;
-      smaller = term_smaller (around.Abs c.in-Abs-Abs.a) _ part _ e c.matching.invariant.smaller;
+      smaller = term_smaller (around.Abs a) _ part _ e c.matching.invariant.smaller;
     }

@@ -1,7 +1,7 @@
 -- What is left matches what is left to be added.
 use Rattle.std.proofs.Common.{◌≡◌, ◌≤◌, length, true}
 use Rattle.ap_cover.specs.Ground.{is_ground_term}
-use Rattle.ap_covering.specs.Matched.{given_by}
+use Rattle.ap_cover.specs.Matched.{given_by}
 use Rattle.ap_defs.specs.declared.terms.Var.{Var}
 use Rattle.ap_defs.specs.Groundings.{Grounding}
 use Rattle.ap_defs.specs.Terms.{term_of}

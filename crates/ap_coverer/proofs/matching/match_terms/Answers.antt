@@ -1,7 +1,7 @@
 use Rattle.std.proofs.Common.{◌≡◌, ◌∙◌, ◌∷◌, List, [], map, ap, ap₂, sym}
 use Rattle.std.specs.List.{list_all}
 use Rattle.ap_cover.specs.Ground.{ground_terms, is_ground_term}
-use Rattle.ap_covering.specs.Matched.{Pairs, given_by, matched_each}
+use Rattle.ap_cover.specs.Matched.{Pairs, given_by, matched_each}
 use Rattle.ap_defs.specs.declared.terms.Term.{Term}
 use Rattle.ap_defs.specs.declared.terms.Var.{Var}
 use Rattle.ap_defs.specs.Groundings.{Grounding}

@@ -2,7 +2,7 @@
 use Rattle.std.proofs.Common.{◌≡◌, length, map, true}
 use Rattle.std.specs.List.{list_all}
 use Rattle.ap_cover.specs.Ground.{ground_terms, is_ground_term}
-use Rattle.ap_covering.specs.Matched.{given_by, matched_each}
+use Rattle.ap_cover.specs.Matched.{given_by, matched_each}
 use Rattle.ap_defs.specs.declared.terms.Var.{Var}
 use Rattle.ap_defs.specs.Groundings.{Grounding}
 use Rattle.ap_defs.specs.Renaming.{replace_names}

@@ -35,11 +35,11 @@ returns-in_ok-push-in-App-clause-less c =
 pub returns-in_ok-push-in-Abs-clause-same : goal.returns-in_ok-push-in-Abs-clause-same
 returns-in_ok-push-in-Abs-clause-same c =
     let part = term_of c.deref-in-Abs.result.now in
-    let all : term_of c.args.t.now ≡ abs c.in-Abs.a part = ap term_of c.in-Abs.is ∙ ap (λ (u : Term). abs c.in-Abs.a (term_of u)) (sym c.deref-in-Abs.ensures) in
-    term_enters (λ u. u) c.args.frames.now.items c.push-in-Abs.new.self.items (round_term.In (around.Abs c.in-Abs.a)) (term_of c.args.t.now) part c.in_ok-push-in-Abs.ensures.items all
+    let all : term_of c.args.t.now ≡ abs (record { sort = c.in-Abs.sort; num = c.in-Abs.num }) part = ap term_of c.in-Abs.is ∙ ap (λ (u : Term). abs (record { sort = c.in-Abs.sort; num = c.in-Abs.num }) (term_of u)) (sym c.deref-in-Abs.ensures) in
+    term_enters (λ u. u) c.args.frames.now.items c.push-in-Abs.new.self.items (round_term.In (around.Abs (record { sort = c.in-Abs.sort; num = c.in-Abs.num }))) (term_of c.args.t.now) part c.in_ok-push-in-Abs.ensures.items all
 
 pub returns-in_ok-push-in-Abs-clause-less : goal.returns-in_ok-push-in-Abs-clause-less
 returns-in_ok-push-in-Abs-clause-less c =
     let part = term_of c.deref-in-Abs.result.now in
-    let all : term_of c.args.t.now ≡ abs c.in-Abs.a part = ap term_of c.in-Abs.is ∙ ap (λ (u : Term). abs c.in-Abs.a (term_of u)) (sym c.deref-in-Abs.ensures) in
-    term_less c.args.frames.now.items c.push-in-Abs.new.self.items (round_term.In (around.Abs c.in-Abs.a)) (term_of c.args.t.now) part c.in_ok-push-in-Abs.ensures.items (abs_less (term_of c.args.t.now) c.in-Abs.a part all)
+    let all : term_of c.args.t.now ≡ abs (record { sort = c.in-Abs.sort; num = c.in-Abs.num }) part = ap term_of c.in-Abs.is ∙ ap (λ (u : Term). abs (record { sort = c.in-Abs.sort; num = c.in-Abs.num }) (term_of u)) (sym c.deref-in-Abs.ensures) in
+    term_less c.args.frames.now.items c.push-in-Abs.new.self.items (round_term.In (around.Abs (record { sort = c.in-Abs.sort; num = c.in-Abs.num }))) (term_of c.args.t.now) part c.in_ok-push-in-Abs.ensures.items (abs_less (term_of c.args.t.now) (record { sort = c.in-Abs.sort; num = c.in-Abs.num }) part all)

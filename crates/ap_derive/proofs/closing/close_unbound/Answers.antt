@@ -13,6 +13,6 @@ returns c =
       lines = line.lines;
       grown = line.grown;
       within = line.within;
-      is = unbound_closed s p x _ c.requires (line.line ∙ ap (λ q. susp q x) (c.in_ok-boxed.ensures.ok ∙ c.of.ensures ∙ c.in_ok-ascending.ensures));
+      is = unbound_closed s p x _ c.requires (line.line ∙ ap (λ q. susp q x) (c.in_ok-waiting.ensures ∙ c.in_ok-ascending.ensures));
       less = (let h = work_some s (susp p x) in omega (arith, h));
     }

@@ -1,5 +1,5 @@
 use Rattle.ap_paths.specs.declared.entries.Entry.TheVariants.{Done}
-use Rattle.ap_tools.proofs.Own.{own_done}
+use Rattle.ap_tools.proofs.OwnEntries.{own_done}
 use Rattle.ap_entering.proofs.entering.done_planned.Goals as goal
 
 pub returns-clause-own : goal.returns-clause-own

@@ -1,5 +1,5 @@
 use Rattle.ap_paths.specs.declared.entries.Entry.TheVariants.{Split}
-use Rattle.ap_tools.proofs.Own.{own_split}
+use Rattle.ap_tools.proofs.OwnEntries.{own_split}
 use Rattle.ap_entering.proofs.entering.split_planned.Goals as goal
 
 pub returns-clause-own : goal.returns-clause-own

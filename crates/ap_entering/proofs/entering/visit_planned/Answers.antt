@@ -1,4 +1,4 @@
-use Rattle.ap_tools.proofs.Own.{kids_choices}
+use Rattle.ap_tools.proofs.OwnEntries.{kids_choices}
 use Rattle.ap_entering.proofs.entering.visit_planned.Goals as goal
 
 pub returns-clause-kids : goal.returns-clause-kids

@@ -1,4 +1,4 @@
-use Rattle.ap_tools.proofs.Own.{own_seen}
+use Rattle.ap_tools.proofs.OwnEntries.{own_seen}
 use Rattle.ap_tools.proofs.Sole.{sole_seen}
 use Rattle.ap_tools.proofs.Accounting.{ends_none}
 use Rattle.ap_entering.proofs.looking.is_over.Goals as goal

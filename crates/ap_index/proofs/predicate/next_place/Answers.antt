@@ -1,6 +1,6 @@
 use Rattle.std.proofs.Common.{ℕ, ◌+◌, not, ap, ◌∙◌, arith, drop}
 use Rattle.std.specs.List.{prefix_len}
-use Rattle.ap_lanes.specs.Matching.{key_agrees}
+use Rattle.ap_index.specs.Matching.{key_agrees}
 use Rattle.ap_index.proofs.KeyLemmas.{narrow_match, narrow_drop, nothing_behind, wide_match, wild_match}
 use Rattle.ap_index.proofs.predicate.next_place.Goals as goal
 use Rattle.ap_index.proofs.predicate.next_place.Goals.{then-key, else-key}

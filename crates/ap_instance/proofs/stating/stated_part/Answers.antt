@@ -40,11 +40,11 @@ returns-in_ok-push-in-Abs-clause-same c =
     let f = settled_term c.args.names.now c.args.picks.now in
     let part = term_of c.deref-in-Abs.result.now in
     let settled = c.in_ok-settled-in-Abs.settled in
-    let all : term_of c.args.term.now ≡ abs c.in-Abs.a part = ap term_of c.in-Abs.is ∙ ap (λ (u : Term). abs c.in-Abs.a (term_of u)) (sym c.deref-in-Abs.ensures) in
+    let all : term_of c.args.term.now ≡ abs (record { sort = c.in-Abs.sort; num = c.in-Abs.num }) part = ap term_of c.in-Abs.is ∙ ap (λ (u : Term). abs (record { sort = c.in-Abs.sort; num = c.in-Abs.num }) (term_of u)) (sym c.deref-in-Abs.ensures) in
     term_enters f c.args.frames.now.items c.push-in-Abs.new.self.items (round_term.In (around.Abs settled)) (term_of c.args.term.now) part c.in_ok-push-in-Abs.ensures.items (ap f all ∙ ap (λ b. abs b (f part)) (sym c.in_ok-settled-in-Abs.ensures))
 
 pub returns-in_ok-push-in-Abs-clause-less : goal.returns-in_ok-push-in-Abs-clause-less
 returns-in_ok-push-in-Abs-clause-less c =
     let part = term_of c.deref-in-Abs.result.now in
-    let all : term_of c.args.term.now ≡ abs c.in-Abs.a part = ap term_of c.in-Abs.is ∙ ap (λ (u : Term). abs c.in-Abs.a (term_of u)) (sym c.deref-in-Abs.ensures) in
-    term_less c.args.frames.now.items c.push-in-Abs.new.self.items (round_term.In (around.Abs c.in_ok-settled-in-Abs.settled)) (term_of c.args.term.now) part c.in_ok-push-in-Abs.ensures.items (abs_less (term_of c.args.term.now) c.in-Abs.a part all)
+    let all : term_of c.args.term.now ≡ abs (record { sort = c.in-Abs.sort; num = c.in-Abs.num }) part = ap term_of c.in-Abs.is ∙ ap (λ (u : Term). abs (record { sort = c.in-Abs.sort; num = c.in-Abs.num }) (term_of u)) (sym c.deref-in-Abs.ensures) in
+    term_less c.args.frames.now.items c.push-in-Abs.new.self.items (round_term.In (around.Abs c.in_ok-settled-in-Abs.settled)) (term_of c.args.term.now) part c.in_ok-push-in-Abs.ensures.items (abs_less (term_of c.args.term.now) (record { sort = c.in-Abs.sort; num = c.in-Abs.num }) part all)

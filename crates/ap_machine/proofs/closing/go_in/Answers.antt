@@ -13,17 +13,17 @@ use Rattle.ap_machine.specs.Closed.{closed_within}
 use Rattle.ap_machine.specs.declared.closing.Round.TheVariants as rounds
 use Rattle.ap_machine.proofs.closing.go_in.Goals as goal
 
-pub returns-in_ok-swaps-in-Susp-clause-same : goal.returns-in_ok-swaps-in-Susp-clause-same
-returns-in_ok-swaps-in-Susp-clause-same c =
+pub returns-in_ok-waiting-in-Susp-clause-same : goal.returns-in_ok-waiting-in-Susp-clause-same
+returns-in_ok-waiting-in-Susp-clause-same c =
     let s = c.args.store.now in let bs = bindings_of s in
     let p = c.in-Susp.swaps.items in let x = c.in-Susp.x in
     let opened : closure_term c.in_ok-head.head ≡ susp p x = sym c.in_ok-open.ensures ∙ ap opened_term c.in-Susp.is in
     let waits : under bs (susp p x) ≡ susp p x = head_stays bs p x (subst (IsHeadUnbound bs) opened c.in_ok-head.ensures.head) in
     let all : meaning_in s c.args.c ≡ susp p x = sym c.in_ok-head.ensures.term ∙ ap (under bs) opened ∙ waits in
-    ap (closed_within s c.args.rounds.now.items) (ap (λ q. susp q x) (c.of.ensures ∙ c.in_ok-swaps-in-Susp.ensures) ∙ sym (ap canonical_term all))
+    ap (closed_within s c.args.rounds.now.items) (ap (λ q. susp q x) (c.in_ok-waiting-in-Susp.ensures ∙ c.in_ok-swaps-in-Susp.ensures) ∙ sym (ap canonical_term all))
 
-pub returns-in_ok-swaps-in-Susp-clause-less : goal.returns-in_ok-swaps-in-Susp-clause-less
-returns-in_ok-swaps-in-Susp-clause-less c =
+pub returns-in_ok-waiting-in-Susp-clause-less : goal.returns-in_ok-waiting-in-Susp-clause-less
+returns-in_ok-waiting-in-Susp-clause-less c =
     let s = c.args.store.now in let bs = bindings_of s in
     let p = c.in-Susp.swaps.items in let x = c.in-Susp.x in
     let opened : closure_term c.in_ok-head.head ≡ susp p x = sym c.in_ok-open.ensures ∙ ap opened_term c.in-Susp.is in

@@ -1,6 +1,6 @@
 use Rattle.std.proofs.Common.{◌≡◌, List, map, take}
 use Rattle.ap_defs.specs.declared.terms.Swap.{Swap}
-use Rattle.ap_lanes.specs.Differing.{differing_places}
+use Rattle.ap_perm.specs.Differing.{differing_places}
 use Rattle.ap_perm.specs.Flat.{image_num, kept}
 use Rattle.ap_perm.proofs.flat.marked.Given as goal
 

@@ -15,4 +15,4 @@ returns c =
     let lines = λ (p : Program Term). query_lines (program_of p) asked.query (query_locals (program_of p) asked.query) os in
     subst (λ (p : Program Term). c.in_ok-report.report.items ≡ lines p) c.restricted.ensures c.in_ok-report.ensures
     ∙ lines_of_query (program_of asked.program.now) asked.depth c.args.limit asked.query os c.requires.query.0 c.requires.query.1
-    (λ q found. rw c.deref.ensures.value ((rw c.in-Some.is at c.in_ok-outs.ensures) q found))
+    (λ q found. rw c.deref.ensures.value ((rw c.in-Some.is at c.in_ok-outs.ensures.outs) q found))

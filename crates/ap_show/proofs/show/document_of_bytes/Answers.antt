@@ -1,6 +1,6 @@
 use Rattle.std.proofs.Common.{subst, arith}
 use Rattle.ap_bundle.specs.Bundles.{bundle_of}
-use Rattle.ap_bundle_check.proofs.TextLemmas.{reading_short}
+use Rattle.ap_bundle_commands.proofs.TextLemmas.{reading_short}
 use Rattle.ap_bundle_laws.proofs.CitedLemmas.{read_is_cited}
 use Rattle.ap_show.specs.Reports.{PassesCheck}
 use Rattle.ap_show.proofs.show.document_of_bytes.Goals as goal

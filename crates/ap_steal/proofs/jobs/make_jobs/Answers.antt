@@ -1,6 +1,6 @@
 use Rattle.std.proofs.Common.{rules, ◌≡◌, ◌∷◌, ◌++◌, [], List, All, sym, subst}
 use Rattle.std.proofs.lemmas.List.Elements.{All-append}
-use Rattle.ap_lock.specs.Seats.{SeatView}
+use Rattle.ap_tools.specs.Seats.{SeatView}
 use Rattle.ap_steal.specs.declared.jobs.Job.{Job}
 use Rattle.ap_tools.specs.Planned.{IsNewSeat}
 use Rattle.ap_tools.proofs.Whole.{all_one, all_last}

@@ -1,7 +1,7 @@
 use Rattle.std.proofs.Common.{rules, arith, ◌≡◌, false, length}
 use Rattle.ap_paths.specs.Entries.{entries_of}
 use Rattle.ap_paths.specs.History.{has_stop}
-use Rattle.ap_lock.specs.Seats.{book_id, book_limit, seats_of}
+use Rattle.ap_tools.specs.Seats.{book_id, book_limit, seats_of}
 use Rattle.ap_tools.proofs.Whole.{one_by_one, are_of, planned_all, open_at_end, are_seats}
 use Rattle.ap_tools.proofs.Sole.{ordered_whole}
 use Rattle.ap_steal.proofs.run.finish.Goals as goal

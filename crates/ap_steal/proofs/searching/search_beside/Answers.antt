@@ -2,7 +2,7 @@ use Rattle.std.proofs.Common.{rules, ◌≡◌, ◌∙◌, length, sym, subst, I
 use Rattle.ap_paths.specs.declared.limits.Limit.{Limit}
 use Rattle.ap_paths.specs.Entries.{entries_of}
 use Rattle.ap_paths.specs.Limits.{AreWithin}
-use Rattle.ap_lock.specs.Seats.{book_id, seats_of, new_seats}
+use Rattle.ap_tools.specs.Seats.{book_id, seats_of, new_seats}
 use Rattle.ap_steal.specs.declared.jobs.Job.{Job}
 use Rattle.ap_tools.specs.Hands.{AreFreshTools}
 use Rattle.ap_tools.proofs.Fresh.{turned_back}

@@ -1,4 +1,4 @@
-use Rattle.ap_tools.proofs.Own.{own_skip}
+use Rattle.ap_tools.proofs.OwnEntries.{own_skip}
 use Rattle.ap_steal.proofs.step.skip_planned.Goals as goal
 
 pub returns-clause-own : goal.returns-clause-own

@@ -1,4 +1,4 @@
-use Rattle.ap_tools.proofs.Own.{own_stop, stop_stands}
+use Rattle.ap_tools.proofs.OwnEntries.{own_stop, stop_stands}
 use Rattle.ap_steal.proofs.work.stop.Goals as goal
 
 pub returns-clause-own : goal.returns-clause-own

@@ -1,7 +1,7 @@
 use Rattle.std.proofs.Common.{◌≡◌, true, false, []}
 use Rattle.ap_paths.specs.Entries.{entries_of}
 use Rattle.ap_paths.specs.History.{has_stop}
-use Rattle.ap_lock.specs.Seats.{book_id, book_limit, SameSeat}
+use Rattle.ap_tools.specs.Seats.{book_id, book_limit, SameSeat}
 use Rattle.ap_tools.specs.Planned.{OwnPlanned}
 use Rattle.ap_tools.specs.Order.{IsSole}
 use Rattle.ap_tools.specs.Accounts.{NoneLost}

@@ -12,7 +12,7 @@ use Rattle.ap_defs.specs.Printing.{Spelling}
 use Rattle.ap_defs.specs.Types.{constructor_of}
 use Rattle.ap_answers.specs.Spelled.{text_at}
 use Rattle.ap_bundle.specs.Bundles.{proved_of}
-use Rattle.ap_pages.specs.declared.steps.Step.{Step}
+use Rattle.ap_steps.specs.declared.steps.Step.{Step}
 use Rattle.ap_steps.specs.Proofs.{steps_on_query, query_steps, shown_steps, writing}
 use Rattle.ap_steps.specs.Spelling.{spelling_by, spelt}
 use Rattle.ap_steps.specs.Steps.{DerivationWriting}

@@ -14,8 +14,8 @@ decreases-further_terms l = 8 * l.levels + 1
 abbrev pub decreases-longer_application : goal.decreases-longer_application
 decreases-longer_application l = 8 * l.levels + 2
 
-abbrev pub decreases-term : goal.decreases-term
-decreases-term l = 8 * l.levels
+abbrev pub decreases-any_term : goal.decreases-any_term
+decreases-any_term l = 8 * l.levels
 
 abbrev pub invariant-further_terms-loop-after : goal.invariant-further_terms-loop-after
 invariant-further_terms-loop-after l = record {

@@ -5,11 +5,20 @@ use Rattle.ap_trees.specs.Trees.{types_of}
 use Rattle.ap_trees.specs.TypeReader.{read_type}
 use Rattle.ap_trees.proofs.types.+types.Given as goal
 
-abbrev pub decreases-type_list : goal.decreases-type_list
-decreases-type_list l = 2 * l.levels + 1
+abbrev pub decreases-any_type : goal.decreases-any_type
+decreases-any_type l = 4 * l.levels
 
-abbrev pub decreases-type_tree : goal.decreases-type_tree
-decreases-type_tree l = 2 * l.levels
+abbrev pub decreases-type_list : goal.decreases-type_list
+decreases-type_list l = 4 * l.levels + 1
+
+abbrev pub decreases-word_type : goal.decreases-word_type
+decreases-word_type l = 4 * l.levels + 1
+
+abbrev pub decreases-list : goal.decreases-list
+decreases-list l = 4 * l.levels + 1
+
+abbrev pub decreases-group : goal.decreases-group
+decreases-group l = 4 * l.levels + 2
 
 abbrev pub invariant-type_list-loop-after : goal.invariant-type_list-loop-after
 invariant-type_list-loop-after l = record {

@@ -1,5 +1,5 @@
 use Rattle.std.proofs.Common.{◌≡◌}
-use Rattle.ap_lock.specs.Seats.{book_id}
+use Rattle.ap_tools.specs.Seats.{book_id}
 use Rattle.ap_part_cases.proofs.measures.turns.taken.Given as goal
 
 abbrev pub invariant-loop : goal.invariant-loop

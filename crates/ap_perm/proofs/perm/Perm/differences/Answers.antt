@@ -1,7 +1,7 @@
 use Rattle.std.proofs.Common.{◌≡◌, ap, ap₂, sym, ◌∙◌, map}
 use Rattle.ap_defs.specs.Canonical.{moved_names}
 use Rattle.ap_defs.specs.Permutations.{disagreement}
-use Rattle.ap_lanes.specs.Differing.{differing_places}
+use Rattle.ap_perm.specs.Differing.{differing_places}
 use Rattle.ap_perm.specs.Flat.{image_num, united}
 use Rattle.ap_perm.proofs.PermLemmas.{all_differences}
 use Rattle.ap_perm.proofs.UnionLemmas.{marks_long}

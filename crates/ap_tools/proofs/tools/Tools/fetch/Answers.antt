@@ -1,5 +1,5 @@
 use Rattle.std.proofs.Common.{arith}
-use Rattle.ap_tasks.specs.Owners.{owner_view}
+use Rattle.ap_tools.specs.Owners.{owner_view}
 use Rattle.ap_tools.proofs.Accounting.{popped_one}
 use Rattle.ap_tools.proofs.tools.Tools.fetch.Goals as goal
 

@@ -1,7 +1,7 @@
 use Rattle.std.proofs.Common.{◌≡◌, ◌∷◌, ◌++◌, [], ap}
-use Rattle.ap_tasks.specs.declared.hand.Hand.{Hand}
+use Rattle.ap_tools.specs.declared.deques.hand.Hand.{Hand}
 use Rattle.ap_paths.specs.Weights.{weigh}
-use Rattle.ap_tasks.specs.Owners.{owner_view}
+use Rattle.ap_tools.specs.Owners.{owner_view}
 use Rattle.ap_tools.proofs.Fresh.{held_pushed}
 use Rattle.ap_tools.proofs.tools.Tools.put.Goals as goal
 

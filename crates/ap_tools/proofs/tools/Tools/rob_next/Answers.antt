@@ -1,5 +1,5 @@
 use Rattle.std.proofs.Common.{rules, ◌≡◌, ℕ, List, set, refl, arith}
-use Rattle.ap_tasks.specs.Owners.{stolen_of}
+use Rattle.ap_tools.specs.Owners.{stolen_of}
 use Rattle.ap_tools.proofs.Accounting.{stolen_more, stolen_same, stole_none}
 use Rattle.ap_tools.proofs.tools.Tools.rob_next.Goals as goal
 

@@ -1,5 +1,5 @@
 use Rattle.std.proofs.Common.{rules, ◌∙◌, ◌∷◌, ◌++◌, sym, ap}
-use Rattle.ap_tools.proofs.Own.{choice_at}
+use Rattle.ap_tools.proofs.OwnEntries.{choice_at}
 use Rattle.ap_tools.proofs.Fresh.{kids_more, kids_held}
 use Rattle.ap_tools.proofs.tools.Tools.take_kids.Goals as goal
 

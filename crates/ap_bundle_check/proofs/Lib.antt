@@ -1,4 +1,0 @@
-mod VerdictLemmas
-pub mod TextLemmas
-pub mod SoundVerdicts
-mod AgainLemmas

@@ -1,4 +1,0 @@
-pub mod Lines
-pub mod Refusals
-pub mod Reports
-pub mod Laws

@@ -1,0 +1,23 @@
+-- What is written of a bundle that is to be written in another version, and the status: the bundle, or the line of its first fault.
+use Rattle.std.specs.Prelude.{◌≡◌, ℕ, List, Result, Ok, Err}
+use Rattle.ap_bundle.specs.Bundles.{NominalBundle}
+use Rattle.ap_bundle.specs.Reading.{reading}
+use Rattle.ap_bundle.specs.Written.{written_as}
+use Rattle.ap_bundle.specs.declared.faults.BundleFault.{BundleFault}
+use Rattle.ap_bundle.specs.declared.version.Version.{Version}
+use Rattle.ap_bundle_commands.specs.CheckReports.{bundle_fault_report}
+use Rattle.ap_report.specs.declared.report.Report.{Report}
+use Rattle.ap_report.specs.declared.status.Status.TheVariants as status
+
+-- the report of a bundle in this version
+abbrev pub written_report : Version → NominalBundle → Report
+written_report to b = record { bytes = written_as to b; status = status.Ok }
+
+-- the report on what was read
+abbrev pub convert_report : Version → Result NominalBundle BundleFault → Report
+convert_report to (Ok b) = written_report to b
+convert_report to (Err f) = bundle_fault_report f
+
+-- the report of `convert` to this version on bytes
+abbrev pub IsConvertReport : Version → List ℕ → Report → Type 0
+IsConvertReport to bytes r = r ≡ convert_report to (reading bytes)

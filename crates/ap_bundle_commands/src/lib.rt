@@ -1,0 +1,13 @@
+//! The reports of commands on a bundle.
+//!
+//! `checking`: whether each of its derivations checks. `converting`: the bundle in the other version. `covering`:
+//! which output of its query's search covers each ground proof.
+#![tactic(auto)]
+
+pub mod checking;
+pub mod converting;
+mod covering;
+
+pub use checking::{bundle_fault_report, check_bytes, report_of_refused};
+pub use converting::convert_bytes;
+pub use covering::cover_bytes;

@@ -1,4 +1,0 @@
-mod UncoveredLemmas
-mod SearchedLemmas
-mod LineLemmas
-pub mod CoveredProofs

@@ -1,4 +1,0 @@
-pub mod Uncovered
-pub mod Lines
-pub mod Reports
-pub mod Searched

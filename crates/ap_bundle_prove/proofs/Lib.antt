@@ -1,3 +1,0 @@
-mod OutLemmas
-mod ProgramLemmas
-pub mod SoundProofs

@@ -1,5 +1,0 @@
-use Rattle.ap_bundle_prove.proofs.SoundProofs.{sound_proofs}
-use Rattle.ap_bundle_prove.proofs.text.prove_text.Goals as goal
-
-pub returns-clause-sound : goal.returns-clause-sound
-returns-clause-sound g c = sound_proofs c.args.depth c.args.limit c.args.text.now

@@ -1,3 +1,0 @@
-pub mod UseLemmas
-mod TableLemmas
-mod WaitingLemmas

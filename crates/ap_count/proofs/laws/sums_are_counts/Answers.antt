@@ -1,5 +1,0 @@
-use Rattle.ap_count.proofs.UseLemmas.{sum_of_tables}
-use Rattle.ap_count.proofs.laws.sums_are_counts.Goals as goal
-
-pub returns : goal.returns
-returns c = sum_of_tables

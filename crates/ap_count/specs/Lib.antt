@@ -1,4 +1,0 @@
-pub mod Uses
-pub mod Tables
-pub mod Waiting
-pub mod Laws

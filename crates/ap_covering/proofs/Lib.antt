@@ -1,2 +1,0 @@
-pub mod AlphaTypeLemmas
-pub mod MatchedLemmas

@@ -1,3 +1,0 @@
-pub mod RuleLemmas
-pub mod LeastLemmas
-pub mod TermLemmas

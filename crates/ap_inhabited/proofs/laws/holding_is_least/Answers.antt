@@ -1,9 +1,0 @@
-use Rattle.ap_inhabited.proofs.LeastLemmas.{holding_least}
-use Rattle.ap_inhabited.proofs.RuleLemmas.{holding_closed}
-use Rattle.ap_inhabited.proofs.laws.holding_is_least.Goals as goal
-
-pub returns-clause-closed : goal.returns-clause-closed
-returns-clause-closed c = holding_closed
-
-pub returns-clause-least : goal.returns-clause-least
-returns-clause-least c = holding_least

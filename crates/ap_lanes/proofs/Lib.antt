@@ -1,2 +1,0 @@
-pub mod DifferingLemmas
-pub mod LaneLemmas

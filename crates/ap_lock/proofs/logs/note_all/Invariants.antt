@@ -1,7 +1,0 @@
-use Rattle.std.proofs.Common.{◌≡◌, take}
-use Rattle.ap_lock.specs.Seats.{logs_of}
-use Rattle.ap_lock.specs.Noting.{lists_of}
-use Rattle.ap_lock.proofs.logs.note_all.Given as goal
-
-abbrev pub invariant-loop-entry : goal.invariant-loop-entry
-invariant-loop-entry l = (lists_of l.logs.items ≡ logs_of l.seats (take l.entry-index l.history)) × (l.place ≡ l.entry-index)

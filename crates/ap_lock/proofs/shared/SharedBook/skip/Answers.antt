@@ -1,9 +1,0 @@
-use Rattle.std.proofs.Common.{rules}
-use Rattle.ap_lock.proofs.Shutting.{may_shut, adds_skipped}
-use Rattle.ap_lock.proofs.shared.SharedBook.skip.Goals as goal
-
-pub shut-requires : goal.shut-requires
-shut-requires g c =
-    let o = c.open-book.ensures in
-    let n = c.seat.inside.number in
-    (search rules, may_shut n _ _ _ _ _ c.seat.invariant o.1 (adds_skipped n c.open-book.result _ _ _ _ c.skip-answer.ensures))

@@ -1,2 +1,0 @@
-pub mod DepthLemmas
-pub mod HtmlLemmas

@@ -1,5 +1,0 @@
-use Rattle.ap_pick.proofs.PickLemmas.{picks_typed}
-use Rattle.ap_pick.proofs.laws.picks_are_typed.Goals as goal
-
-pub returns : goal.returns
-returns c = picks_typed

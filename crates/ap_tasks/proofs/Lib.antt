@@ -1,5 +1,0 @@
-pub mod Moves
-pub mod Spares
-pub mod Closings
-pub mod Placing
-pub mod Outcomes

@@ -1,0 +1,9 @@
+pub mod ProvedPaths
+pub mod ProveReports
+pub mod Counts
+pub mod CountReports
+pub mod CountedPaths
+pub mod Rows
+pub mod Laws
+pub mod Sums
+pub mod WorkReports

@@ -1,0 +1,12 @@
+//! The answers of a text's queries with their derivations, as a bundle.
+//!
+//! [`prove_program`] finds the answers, so many workers between them, and makes the derivation of each
+//! from the path at which it was found; [`prove_text`] is the report of the command on a text. What is
+//! written does not depend on how many workers there are.
+
+mod program;
+mod query;
+mod text;
+
+pub use program::prove_program;
+pub use text::prove_text;

@@ -1,6 +1,0 @@
-mod Shared
-mod PathLemmas
-mod SumLemmas
-mod RowLemmas
-mod OrderLemmas
-mod DepthLemmas

@@ -1,5 +1,0 @@
-use Rattle.ap_uses.proofs.DepthLemmas.{counts_deeper}
-use Rattle.ap_uses.proofs.laws.deeper_counts_are_the_same.Goals as goal
-
-pub returns : goal.returns
-returns c = counts_deeper

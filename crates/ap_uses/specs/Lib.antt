@@ -1,5 +1,0 @@
-pub mod Counts
-pub mod Reports
-pub mod Paths
-pub mod Rows
-pub mod Laws

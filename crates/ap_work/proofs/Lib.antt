@@ -1,2 +1,0 @@
-mod OutLemmas
-mod SumLemmas
