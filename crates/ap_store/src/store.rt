@@ -2,13 +2,14 @@
 
 ghost use Rattle.ap_perm.specs.Lookups.{IsRanked};
 ghost use Rattle.ap_store.specs.Changes.{empty};
+ghost use Rattle.ap_store.specs.Marks.{AreMarked, mark_in, marks_prop};
 ghost use Rattle.ap_store.specs.Slots.{AreHeld, IsStored, changes_in, held_prop, stored_prop};
 ghost use Rattle.ap_store.specs.Trails.{no_rank, nothing_bound, rank_after, raw_after};
 
 use crate::bare::Bare;
 use crate::changes::{Entry, Noted};
 use crate::held::{all_of, held_of, hold, let_go, put_back, take_out};
-use crate::slots::{Found, Slot, Value, value_of};
+use crate::slots::{Found, Slot, Value, plain_value, value_of};
 use crate::tables::{add_slots, bound_at, found_at, put_value};
 use ap_defs::goals::{Kind, Local};
 use ap_defs::memory::Memory;
@@ -28,7 +29,8 @@ pub struct Mark {
 ///
 /// Contracts see it as its present triple of bindings, conditions and next number, the list of the
 /// earlier triples, and the list of kinds. There each binding is carried out in the others; what is
-/// kept of it is the closure alone, in the table. All that is bound is below `reach`.
+/// kept of it is the closure alone, in the table. All that is bound is below `reach`. What is marked stood for a
+/// term without variables when it was bound, and so does since.
 #[derive(Drop)]
 pub struct Store<'a> {
     table: Vec<Slot<'a>>,
@@ -38,6 +40,7 @@ pub struct Store<'a> {
     reach: u64,
     pub ghost stored: { IsStored table.items trail.items noted.items reach } by { stored_prop table.items trail.items noted.items reach },
     pub ghost holds: { AreHeld held.items (changes_in table.items trail.items noted.items) } by { held_prop held.items (changes_in table.items trail.items noted.items) },
+    pub ghost marked: { AreMarked (mark_in table.items) (changes_in table.items trail.items noted.items) empty } by { marks_prop (mark_in table.items) (changes_in table.items trail.items noted.items) empty },
     pub ghost ranked: { IsRanked (raw_after (changes_in table.items trail.items noted.items) nothing_bound)
         (rank_after (changes_in table.items trail.items noted.items) empty no_rank) },
 }
@@ -47,12 +50,13 @@ impl<'a> Store<'a> {
     ghost use Rattle.ap_defs.specs.Renaming.{IsBelow, rename_term};
     ghost use Rattle.ap_defs.specs.Resolution.{kinds_of};
     ghost use Rattle.ap_defs.specs.Substitution.{occurs, under};
-    ghost use Rattle.ap_defs.specs.Terms.{term_of};
+    ghost use Rattle.ap_defs.specs.Terms.{susp, term_of};
     ghost use Rattle.ap_defs.specs.Types.{kind_of, locals_of};
     ghost use Rattle.ap_perm.specs.Closures.{closure_term, lent_term};
     ghost use Rattle.ap_theory.specs.Variables.{IsUnbound};
     ghost use Rattle.ap_store.specs.Changes.{has_on, replace_conditions, with_bound};
-    ghost use Rattle.ap_store.specs.Founds.{IsBareOf, IsWhatIsFound};
+    ghost use Rattle.ap_store.specs.Founds.{IsBareOf, IsWhatIsFound, is_ground_found};
+    ghost use Rattle.ap_store.specs.Marks.{HasNoVars, is_marked};
     ghost use Rattle.ap_store.specs.Slots.{IsKeptBelow, value_term, kept_term};
     ghost use Rattle.ap_store.specs.Triples.{AreOnUnbound, IsPrefixOf, is_apart, is_on, with_binding, with_conditions, with_next};
     ghost use Rattle.ap_store.specs.Views.{IsUnchanged, bindings_of, kinds, meaning_in, past, present, raw_bound, versions};
@@ -95,13 +99,20 @@ impl<'a> Store<'a> {
         Ok(first as u64)
     }
 
-    /// Binds an unbound variable to a closure in which it does not occur, and answers the conditions
-    /// on the variable, which are taken out. After want of memory the store is as before.
-    pub fn bind(&mut self, alloc: Global, x: Var, c: Closure<'a>) -> Result<Vec<Cond>, Memory>
+    /// Binds an unbound variable to a closure in which it does not occur, marked where that is known to be
+    /// ground, and answers the conditions on the variable, which are taken out. After want of memory the store is as before.
+    pub fn bind(
+        &mut self,
+        alloc: Global,
+        x: Var,
+        c: Closure<'a>,
+        ground: bool,
+    ) -> Result<Vec<Cond>, Memory>
         requires made { x.num < (present self.old).next }
         requires unbound { IsUnbound (bindings_of self.old) x }
         requires term { IsBelow (present self.old).next (closure_term c) }
         requires absent { occurs x (meaning_in self.old c) ≡ false }
+        requires ground { ground ≡ true → HasNoVars (meaning_in self.old c) }
         ensures taken { IfOk result (λ conds. conds.items
             ≡ filter (is_on x) (present self.old).conditions) }
         ensures present { OnOk result (present self.new
@@ -112,16 +123,23 @@ impl<'a> Store<'a> {
         ensures unchanged { OnErr result (IsUnchanged self.old self.new) }
     {
         let end = c.end;
-        let value = value_of(alloc, c)?;
+        let value = value_of(alloc, c, ground)?;
         let taken = self.take_conditions(alloc, x)?;
         self.note_binding(x, value, end);
         Ok(taken)
     }
 
     /// Binds an unbound variable, on which there are no conditions, to a term on which no swappings wait,
-    /// whose identifiers are numbered from `base` on, below `end`, and in which it does not occur. After
-    /// want of memory the store is as before; a `base` of `2 ^ 32` and more is such a want.
-    pub fn bind_free(&mut self, x: Var, base: u64, end: u64, term: &'a Term) -> Result<(), Memory>
+    /// whose identifiers are numbered from `base` on, below `end`, and in which it does not occur, marked where
+    /// that is known to be ground. After want of memory the store is as before; a `base` of `2 ^ 32` and more is such a want.
+    pub fn bind_free(
+        &mut self,
+        x: Var,
+        base: u64,
+        end: u64,
+        term: &'a Term,
+        ground: bool,
+    ) -> Result<(), Memory>
         requires made { x.num < (present self.old).next }
         requires unbound { IsUnbound (bindings_of self.old) x }
         requires apart { has_on x (present self.old).conditions ≡ false }
@@ -129,6 +147,8 @@ impl<'a> Store<'a> {
         requires term { IsBelow (present self.old).next (rename_term base (term_of term.now)) }
         requires absent { occurs x (under (bindings_of self.old)
             (rename_term base (term_of term.now))) ≡ false }
+        requires ground { ground ≡ true →
+            HasNoVars (under (bindings_of self.old) (rename_term base (term_of term.now))) }
         ensures present { OnOk result (present self.new
             ≡ with_binding x (under (bindings_of self.old) (rename_term base (term_of term.now)))
             (present self.old)) }
@@ -140,7 +160,7 @@ impl<'a> Store<'a> {
             return Err(Memory);
         }
         self.make_room()?;
-        self.note_binding(x, Value::Plain(base as u32, term), end);
+        self.note_binding(x, plain_value(base as u32, term, ground), end);
         Ok(())
     }
 
@@ -194,7 +214,9 @@ impl<'a> Store<'a> {
 
     /// What a look at a variable finds. It takes no memory.
     pub fn found(&self, x: Var) -> Found<'a>
-        ensures { IsWhatIsFound (raw_bound self.now x) result }
+        ensures found { IsWhatIsFound (raw_bound self.now x) result }
+        ensures ground { is_ground_found result ≡ true →
+            HasNoVars (under (bindings_of self.now) (susp [] x)) }
     {
         found_at(&self.table, x.num, self.reach)
     }
@@ -207,6 +229,7 @@ impl<'a> Store<'a> {
         match self.found(x) {
             Found::Nothing => None,
             Found::Plain(b) => Some(b),
+            Found::Ground(b) => Some(b),
             Found::Moved(b) => Some(b),
         }
     }
@@ -327,6 +350,8 @@ impl<'a> Store<'a> {
         requires term { IsBelow (present self.old).next (kept_term value) }
         requires within { IsKeptBelow end value }
         requires absent { occurs x (under (bindings_of self.old) (kept_term value)) ≡ false }
+        requires mark { is_marked value ≡ true →
+            HasNoVars (under (bindings_of self.old) (kept_term value)) }
         requires apart { has_on x (present self.old).conditions ≡ false }
         ensures present { present self.new
             ≡ with_bound x (under (bindings_of self.old) (kept_term value.entry)) (present self.old) }
