@@ -83,7 +83,7 @@ pub not_found : (is_open : Bool) → does_occur (if is_open then occurrences.Apa
 not_found true = refl
 not_found false = refl
 
-may_be_open : Occurrence → Bool
+abbrev may_be_open : Occurrence → Bool
 may_be_open occurrences.Occurs = true
 may_be_open occurrences.Apart = true
 may_be_open occurrences.Ground = false

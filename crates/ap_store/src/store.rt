@@ -6,15 +6,16 @@ ghost use Rattle.ap_store.specs.Marks.{AreMarked, mark_in, marks_prop};
 ghost use Rattle.ap_store.specs.Slots.{AreHeld, IsStored, changes_in, held_prop, stored_prop};
 ghost use Rattle.ap_store.specs.Trails.{no_rank, nothing_bound, rank_after, raw_after};
 
-use crate::bare::Bare;
+mod reading;
+
 use crate::changes::{Entry, Noted};
-use crate::held::{all_of, held_of, hold, let_go, put_back, take_out};
-use crate::slots::{Found, Slot, Value, plain_value, value_of};
-use crate::tables::{add_slots, bound_at, found_at, put_value};
-use ap_defs::goals::{Kind, Local};
+use crate::held::{held_of, hold, let_go, put_back, take_out};
+use crate::slots::{Slot, Value, plain_value, value_of};
+use crate::tables::{add_slots, put_value};
+use ap_defs::goals::Local;
 use ap_defs::memory::Memory;
 use ap_defs::terms::{Cond, Term, Var};
-use ap_perm::closures::{Closure, Lent};
+use ap_perm::closures::Closure;
 use ap_perm::sets::make_set;
 use std::alloc::Global;
 
@@ -46,20 +47,19 @@ pub struct Store<'a> {
 }
 
 impl<'a> Store<'a> {
-    ghost use Rattle.std.specs.Prelude.{◌≡◌, ◌+◌, ◌≤◌, ◌<◌, ◌++◌, ◌∷◌, [], false, true, Some, None, IfOk, MatchOption, OnOk, OnErr, filter, length, slice_get, take, vec_len, vec_capacity};
+    ghost use Rattle.std.specs.Prelude.{◌≡◌, ◌+◌, ◌≤◌, ◌<◌, ◌++◌, ◌∷◌, [], false, true, Some, IfOk, OnOk, OnErr, filter, length, take, vec_len, vec_capacity};
     ghost use Rattle.ap_defs.specs.Renaming.{IsBelow, rename_term};
     ghost use Rattle.ap_defs.specs.Resolution.{kinds_of};
     ghost use Rattle.ap_defs.specs.Substitution.{occurs, under};
-    ghost use Rattle.ap_defs.specs.Terms.{susp, term_of};
-    ghost use Rattle.ap_defs.specs.Types.{kind_of, locals_of};
-    ghost use Rattle.ap_perm.specs.Closures.{closure_term, lent_term};
+    ghost use Rattle.ap_defs.specs.Terms.{term_of};
+    ghost use Rattle.ap_defs.specs.Types.{locals_of};
+    ghost use Rattle.ap_perm.specs.Closures.{closure_term};
     ghost use Rattle.ap_theory.specs.Variables.{IsUnbound};
     ghost use Rattle.ap_store.specs.Changes.{has_on, replace_conditions, with_bound};
-    ghost use Rattle.ap_store.specs.Founds.{IsBareOf, IsWhatIsFound, is_ground_found};
     ghost use Rattle.ap_store.specs.Marks.{HasNoVars, is_marked};
     ghost use Rattle.ap_store.specs.Slots.{IsKeptBelow, value_term, kept_term};
     ghost use Rattle.ap_store.specs.Triples.{AreOnUnbound, IsPrefixOf, is_apart, is_on, with_binding, with_conditions, with_next};
-    ghost use Rattle.ap_store.specs.Views.{IsUnchanged, bindings_of, kinds, meaning_in, past, present, raw_bound, versions};
+    ghost use Rattle.ap_store.specs.Views.{IsUnchanged, bindings_of, kinds, meaning_in, past, present, versions};
 
     /// The empty store. It takes no memory.
     pub fn new(alloc: Global) -> Store<'a>
@@ -202,76 +202,6 @@ impl<'a> Store<'a> {
         'undoing: while self.trail.len() > m.place {
             self.undo_last();
         }
-    }
-
-    /// The closure to which a variable is bound, or none where it is unbound. It takes no memory.
-    pub fn binding(&self, x: Var) -> Option<Lent<'_, 'a>>
-        ensures { MatchOption result (raw_bound self.now x ≡ None) (λ c. raw_bound self.now x
-            ≡ Some (lent_term c)) }
-    {
-        bound_at(&self.table, x.num, self.reach)
-    }
-
-    /// What a look at a variable finds. It takes no memory.
-    pub fn found(&self, x: Var) -> Found<'a>
-        ensures found { IsWhatIsFound (raw_bound self.now x) result }
-        ensures ground { is_ground_found result ≡ true →
-            HasNoVars (under (bindings_of self.now) (susp [] x)) }
-    {
-        found_at(&self.table, x.num, self.reach)
-    }
-
-    /// The term of the closure to which a variable is bound, without the swappings that wait on it, or none
-    /// where it is unbound. It takes no memory.
-    pub(crate) fn bare(&self, x: Var) -> Option<Bare<'a>>
-        ensures { IsBareOf (raw_bound self.now x) result }
-    {
-        match self.found(x) {
-            Found::Nothing => None,
-            Found::Plain(b) => Some(b),
-            Found::Ground(b) => Some(b),
-            Found::Moved(b) => Some(b),
-        }
-    }
-
-    /// Whether there are conditions on a variable. It takes no memory.
-    pub fn has_conditions(&self, x: Var) -> bool
-        ensures { result ≡ has_on x (present self.now).conditions }
-    {
-        !held_of(&self.held, x.num as usize).is_empty()
-    }
-
-    /// Whether the variable is so new that neither the closure nor any bound one can have it.
-    pub(crate) fn is_new(&self, x: Var, c: &Closure<'_>) -> bool
-        ensures { result ≡ true →
-            occurs x (meaning_in self.now c.now) ≡ false }
-    {
-        self.reach <= x.num && c.end <= x.num
-    }
-
-    /// The conditions, each once, ascending by variable, then by the name's number, and then by its
-    /// sort.
-    pub fn conds(&self, alloc: Global) -> Result<Vec<Cond>, Memory>
-        ensures { IfOk result (λ conds. conds.items ≡ (present self.now).conditions) }
-    {
-        let mut conds = all_of(alloc, &self.held)?;
-        make_set(&mut conds);
-        Ok(conds)
-    }
-
-    /// The next number. It takes no memory.
-    pub fn next(&self) -> u64
-        ensures { result ≡ (present self.now).next }
-    {
-        self.table.len() as u64
-    }
-
-    /// The kind of a number that was given. It takes no memory.
-    pub fn kind(&self, num: u64) -> &'a Kind
-        requires { num < (present self.now).next }
-        ensures { slice_get (kinds self.now) num ≡ Some (kind_of result.now) }
-    {
-        &self.table[num as usize].local.kind
     }
 
     /// Makes room for one more change.

@@ -91,12 +91,12 @@ returns-then-x-y-clause-found c =
 pub returns-then-x-y-clause-ground : goal.returns-then-x-y-clause-ground
 returns-then-x-y-clause-ground c = λ e. absurd (true≢false (ap does_occur e))
 
-pub returns-in_default-pop-clause-found : goal.returns-in_default-pop-clause-found
-returns-in_default-pop-clause-found c =
+pub returns-in_default-clause-found : goal.returns-in_default-clause-found
+returns-in_default-clause-found c =
     let s = c.args.store.now in
     let x = c.args.x in
     let none : c.seeking.waiting.items ≡ [] =
-    c.in_default-pop.ensures.items ∙ append-nil c.pop.new.self.items ∙ nil_from_length c.pop.new.self.items (let l = c.pop.new.self.ok.0 in let h = c.in_default-pop.ensures.cases in omega (arith, l, h.1)) in
+    c.in_default.ensures.items ∙ append-nil c.pop.new.self.items ∙ nil_from_length c.pop.new.self.items (let l = c.pop.new.self.ok.0 in let h = c.in_default.ensures.cases in omega (arith, l, h.1)) in
     let all : false ≡ occurs_in s x c.args.first = elim c.match-rest.branch [
       | in-Susp+in-Unbound+else-x-y w ↦ none_left s x (part_has s c.seeking.base c.seeking.rest.now x) c.seeking.waiting.items
           (apart_here s c.seeking.base c.seeking.rest.now w.in-Susp.field-0 w.in-Susp.y x w.in-Susp.is (subst (IsSight s (rename_var c.seeking.base w.in-Susp.y)) w.in-Unbound.is w.seen.ensures) w.if-x-y.false)
@@ -109,11 +109,11 @@ returns-in_default-pop-clause-found c =
     ] in
     ap does_occur c.without.ensures ∙ not_found c.match-rest.is_open ∙ all
 
-pub returns-in_default-pop-clause-ground : goal.returns-in_default-pop-clause-ground
-returns-in_default-pop-clause-ground c =
+pub returns-in_default-clause-ground : goal.returns-in_default-clause-ground
+returns-in_default-clause-ground c =
     let s = c.args.store.now in
     let none : c.seeking.waiting.items ≡ [] =
-    c.in_default-pop.ensures.items ∙ append-nil c.pop.new.self.items ∙ nil_from_length c.pop.new.self.items (let l = c.pop.new.self.ok.0 in let h = c.in_default-pop.ensures.cases in omega (arith, l, h.1)) in
+    c.in_default.ensures.items ∙ append-nil c.pop.new.self.items ∙ nil_from_length c.pop.new.self.items (let l = c.pop.new.self.ok.0 in let h = c.in_default.ensures.cases in omega (arith, l, h.1)) in
     λ e y. let shut : c.match-rest.is_open ≡ false = shut_if_ground c.match-rest.is_open (sym c.without.ensures ∙ e) in
     sym (elim c.match-rest.branch [
       | in-Susp+in-Unbound+else-x-y w ↦ absurd (true≢false (sym w.is_open-is ∙ shut))
@@ -129,8 +129,8 @@ returns-in_default-pop-clause-ground c =
 pub seeking-smaller : goal.seeking-smaller
 seeking-smaller c =
     let s = c.args.store.now in
-    let all : visits_in_all s c.seeking.waiting.items ≡ visits_in_all s c.pop.new.self.items + visits_in s (bare_term c.in-Some-pop.next) =
-    ap (visits_in_all s) c.in-Some-pop.ensures.items ∙ visits_last s c.pop.new.self.items c.in-Some-pop.next in
+    let all : visits_in_all s c.seeking.waiting.items ≡ visits_in_all s c.pop.new.self.items + visits_in s (bare_term c.in-Some.next) =
+    ap (visits_in_all s) c.in-Some.ensures.items ∙ visits_last s c.pop.new.self.items c.in-Some.next in
     let k = some_visits s (rename_term c.seeking.base (term_of c.seeking.rest.now)) in
     omega (arith, all, k)
 
@@ -139,7 +139,7 @@ seeking-preserved c =
     let s = c.args.store.now in
     let x = c.args.x in
     let has = part_has s c.seeking.base c.seeking.rest.now in
-    let next = λ (y : Var) (h : has y ≡ false). comes_next s y (has y) c.seeking.waiting.items c.pop.new.self.items c.in-Some-pop.next h c.in-Some-pop.ensures.items in
+    let next = λ (y : Var) (h : has y ≡ false). comes_next s y (has y) c.seeking.waiting.items c.pop.new.self.items c.in-Some.next h c.in-Some.ensures.items in
     record {
       all = λ y g. elim c.match-rest.branch [
         | in-Susp+in-Unbound+else-x-y w ↦
@@ -153,5 +153,5 @@ seeking-preserved c =
         | in-Unit-2 w ↦ next y (leaf_here s c.seeking.base c.seeking.rest.now y w.in-Unit.is) ∙ c.seeking.invariant.all y (λ o. g (w.is_open-is ∙ o))
       ];
       fits = let h = c.end_of-end-in-seeking.type_inv in omega (arith, h);
-      below = subst (λ n. IsBelow n (bare_term c.in-Some-pop.next)) (sym c.end_of-end-in-seeking.ensures) c.in-Some-pop.next.below;
+      below = subst (λ n. IsBelow n (bare_term c.in-Some.next)) (sym c.end_of-end-in-seeking.ensures) c.in-Some.next.below;
     }
