@@ -88,13 +88,13 @@ pub fn bind_var<'a>(
     work: &mut Work<'a>,
     x: Var,
     c: Closure<'a>,
-    ground: bool,
+    is_ground: bool,
 ) -> Result<(), Memory>
     requires made { x.num < (present store.old).next }
     requires unbound { IsUnbound (bindings_of store.old) x }
     requires below { IsBelow (present store.old).next (closure_term c) }
     requires absent { occurs x (meaning_in store.old c) ≡ false }
-    requires ground { ground ≡ true → HasNoVars (meaning_in store.old c) }
+    requires no_vars { is_ground ≡ true → HasNoVars (meaning_in store.old c) }
     ensures stage { OnOk result (next (work_stage (bindings_of store.new) work.new)
         ≡ apply_rule (bind x (meaning_in store.old c.entry)) (map
         (equation_under (bindings_of store.old)) (equations_left work.old)) (map (problem_under
@@ -107,7 +107,7 @@ pub fn bind_var<'a>(
     ensures past { IsPrefixOf (versions store.old) (versions store.new) }
     ensures kinds { kinds store.new ≡ kinds store.old }
 {
-    let mut taken = store.bind(alloc, x, c, ground)?;
+    let mut taken = store.bind(alloc, x, c, is_ground)?;
     if taken.is_empty() {
         return Ok(());
     }
@@ -122,13 +122,13 @@ pub fn bind_plain<'a>(
     work: &mut Work<'a>,
     x: Var,
     p: Plain<'a>,
-    ground: bool,
+    is_ground: bool,
 ) -> Result<(), Memory>
     requires made { x.num < (present store.old).next }
     requires unbound { IsUnbound (bindings_of store.old) x }
     requires below { IsBelow (present store.old).next (plain_term p) }
     requires absent { occurs x (under (bindings_of store.old) (plain_term p)) ≡ false }
-    requires ground { ground ≡ true →
+    requires no_vars { is_ground ≡ true →
         HasNoVars (under (bindings_of store.old) (plain_term p)) }
     ensures bindings { OnOk result (bindings_of store.new ≡ (with_binding x
         (under (bindings_of store.old) (plain_term p.entry)) (present store.old)).bindings) }
@@ -139,9 +139,9 @@ pub fn bind_plain<'a>(
     ensures kinds { kinds store.new ≡ kinds store.old }
 {
     if store.has_conditions(x) {
-        return bind_var(alloc, store, work, x, p.closure(alloc), ground);
+        return bind_var(alloc, store, work, x, p.closure(alloc), is_ground);
     }
-    store.bind_free(x, p.base, p.end, p.term, ground)
+    store.bind_free(x, p.base, p.end, p.term, is_ground)
 }
 
 /// What a rule made of the first equation is carried out. It answers false where that is no
@@ -180,8 +180,8 @@ fn carry_out<'a>(
             put_names(work, &names, x)?;
             Ok(true)
         }
-        Move::Bind(x, c, ground) => {
-            bind_var(alloc, store, work, x, c, ground)?;
+        Move::Bind(x, c, is_ground) => {
+            bind_var(alloc, store, work, x, c, is_ground)?;
             Ok(true)
         }
         Move::Clash => Ok(false),

@@ -88,21 +88,21 @@ fn bind_to<'a>(
     p: &[Swap],
     x: Var,
     c: Closure<'a>,
-    ground: bool,
+    is_ground: bool,
 ) -> Result<Move<'a>, Memory>
     requires made { x.num < (present store.now).next }
     requires unbound { IsUnbound (bindings_of store.now) x }
     requires swaps { AreSwapsBelow (present store.now).next p.now }
     requires below { IsBelow (present store.now).next (closure_term c) }
     requires absent { occurs x (meaning_in store.now c) ≡ false }
-    requires ground { ground ≡ true → HasNoVars (meaning_in store.now c) }
+    requires no_vars { is_ground ≡ true → HasNoVars (meaning_in store.now c) }
     ensures rule { IfOk result (λ m. move_under (bindings_of store.now) m
         ≡ bind x (act_term (inverse p.now) (meaning_in store.now c.entry))) }
     ensures fit { IfOk result (λ m. IsMoveFit (bindings_of store.now) (present store.now).next
         m) }
 {
     let moved = moved_back(alloc, p, c)?;
-    Ok(Move::Bind(x, moved, ground))
+    Ok(Move::Bind(x, moved, is_ground))
 }
 
 /// A variable is bound to a closure, unless it occurs there.

@@ -3,7 +3,7 @@ use Rattle.std.proofs.Common.{◌≡◌, ◌<◌, ◌≤◌, ℕ, zero, suc, Boo
 use Rattle.std.specs.Prelude.{◌==◌, slice_set, if◌then◌else◌, None, is_some}
 use Rattle.std.proofs.lemmas.Bool.Decides.{nat_tests}
 use Rattle.ap_defs.specs.Types.{NominalKind}
-use Rattle.ap_store.specs.Marks.{is_marked, mark_in}
+use Rattle.ap_store.specs.Marks.{is_ground_value, ground_in}
 use Rattle.ap_store.specs.Slots.{bound_in, slot_kind, value_term}
 use Rattle.ap_store.specs.declared.slots.Slot.{Slot}
 use Rattle.ap_store.specs.declared.slots.Value.{Value}
@@ -68,50 +68,50 @@ bound_in_more s ss us i e z = ap (λ (vs : List Slot). bound_in vs i) e ∙ boun
     none (suc j) = refl
 
 -- Marks in tables.
-pub mark_in_get : (ss : List Slot) (i : ℕ) (d : Slot) → i < length ss → mark_in ss i ≡ is_marked (get_or ss i d).value
-mark_in_get [] i d l = absurd (omega arith)
-mark_in_get (s ∷ ss) zero d l = refl
-mark_in_get (s ∷ ss) (suc i) d l = mark_in_get ss i d (omega arith)
+pub ground_in_get : (ss : List Slot) (i : ℕ) (d : Slot) → i < length ss → ground_in ss i ≡ is_ground_value (get_or ss i d).value
+ground_in_get [] i d l = absurd (omega arith)
+ground_in_get (s ∷ ss) zero d l = refl
+ground_in_get (s ∷ ss) (suc i) d l = ground_in_get ss i d (omega arith)
 
-pub mark_in_beyond : (ss : List Slot) (i : ℕ) → length ss ≤ i → mark_in ss i ≡ false
-mark_in_beyond [] i l = refl
-mark_in_beyond (s ∷ ss) zero l = absurd (omega arith)
-mark_in_beyond (s ∷ ss) (suc i) l = mark_in_beyond ss i (omega arith)
+pub ground_in_beyond : (ss : List Slot) (i : ℕ) → length ss ≤ i → ground_in ss i ≡ false
+ground_in_beyond [] i l = refl
+ground_in_beyond (s ∷ ss) zero l = absurd (omega arith)
+ground_in_beyond (s ∷ ss) (suc i) l = ground_in_beyond ss i (omega arith)
 
-pub mark_in_set : (ss : List Slot) (i j : ℕ) (s : Slot) → i < length ss → mark_in (slice_set ss i s) j ≡ (if j == i then is_marked s.value else mark_in ss j)
-mark_in_set [] i j s l = absurd (omega arith)
-mark_in_set (t ∷ ss) zero zero s l = refl
-mark_in_set (t ∷ ss) zero (suc j) s l = sym (ap (λ (b : Bool). if b then is_marked s.value else mark_in ss j) (after_zero j))
-mark_in_set (t ∷ ss) (suc i) zero s l = sym (ap (λ (b : Bool). if b then is_marked s.value else is_marked t.value) (before_suc i))
-mark_in_set (t ∷ ss) (suc i) (suc j) s l = mark_in_set ss i j s (omega arith) ∙ ap (λ (b : Bool). if b then is_marked s.value else mark_in ss j) (sym (both_suc i j))
+pub ground_in_set : (ss : List Slot) (i j : ℕ) (s : Slot) → i < length ss → ground_in (slice_set ss i s) j ≡ (if j == i then is_ground_value s.value else ground_in ss j)
+ground_in_set [] i j s l = absurd (omega arith)
+ground_in_set (t ∷ ss) zero zero s l = refl
+ground_in_set (t ∷ ss) zero (suc j) s l = sym (ap (λ (b : Bool). if b then is_ground_value s.value else ground_in ss j) (after_zero j))
+ground_in_set (t ∷ ss) (suc i) zero s l = sym (ap (λ (b : Bool). if b then is_ground_value s.value else is_ground_value t.value) (before_suc i))
+ground_in_set (t ∷ ss) (suc i) (suc j) s l = ground_in_set ss i j s (omega arith) ∙ ap (λ (b : Bool). if b then is_ground_value s.value else ground_in ss j) (sym (both_suc i j))
 
 -- one more slot that is not marked
-pub mark_in_more : (s : Slot) (ss us : List Slot) (i : ℕ) → us ≡ ss ++ s ∷ [] → is_marked s.value ≡ false → mark_in us i ≡ mark_in ss i
-mark_in_more s ss us i e z = ap (λ (vs : List Slot). mark_in vs i) e ∙ behind ss i
+pub ground_in_more : (s : Slot) (ss us : List Slot) (i : ℕ) → us ≡ ss ++ s ∷ [] → is_ground_value s.value ≡ false → ground_in us i ≡ ground_in ss i
+ground_in_more s ss us i e z = ap (λ (vs : List Slot). ground_in vs i) e ∙ behind ss i
   where
-    alone : (j : ℕ) → mark_in (s ∷ []) j ≡ false
+    alone : (j : ℕ) → ground_in (s ∷ []) j ≡ false
     alone zero = z
     alone (suc j) = refl
 
-    behind : (vs : List Slot) (j : ℕ) → mark_in (vs ++ s ∷ []) j ≡ mark_in vs j
+    behind : (vs : List Slot) (j : ℕ) → ground_in (vs ++ s ∷ []) j ≡ ground_in vs j
     behind [] j = alone j
     behind (v ∷ vs) zero = refl
     behind (v ∷ vs) (suc j) = behind vs j
 
-pub mark_in_take : (ss : List Slot) (n i : ℕ) → mark_in (take n ss) i ≡ true → mark_in ss i ≡ true
+pub mark_in_take : (ss : List Slot) (n i : ℕ) → ground_in (take n ss) i ≡ true → ground_in ss i ≡ true
 mark_in_take [] zero i h = h
 mark_in_take [] (suc n) i h = h
 mark_in_take (s ∷ ss) zero i h = absurd (true≢false (sym h))
 mark_in_take (s ∷ ss) (suc n) zero h = h
 mark_in_take (s ∷ ss) (suc n) (suc i) h = mark_in_take ss n i h
 
-marked_is_some : (b : Value) → is_marked b ≡ true → is_some (value_term b) ≡ true
+marked_is_some : (b : Value) → is_ground_value b ≡ true → is_some (value_term b) ≡ true
 marked_is_some Unbound h = absurd (true≢false (sym h))
 marked_is_some (Plain m t) h = refl
 marked_is_some (Ground m t) h = refl
 marked_is_some (Moved c) h = refl
 
-pub marked_is_bound : (ss : List Slot) (i : ℕ) → mark_in ss i ≡ true → is_some (bound_in ss i) ≡ true
+pub marked_is_bound : (ss : List Slot) (i : ℕ) → ground_in ss i ≡ true → is_some (bound_in ss i) ≡ true
 marked_is_bound [] i h = absurd (true≢false (sym h))
 marked_is_bound (s ∷ ss) zero h = marked_is_some s.value h
 marked_is_bound (s ∷ ss) (suc i) h = marked_is_bound ss i h

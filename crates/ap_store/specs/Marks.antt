@@ -15,35 +15,35 @@ abbrev pub HasNoVars : NominalTerm → Type 0
 HasNoVars t = (y : Var) → occurs y t ≡ false
 
 -- the binding is marked
-abbrev pub is_marked : Value → Bool
-is_marked Unbound = false
-is_marked (Plain b t) = false
-is_marked (Ground b t) = true
-is_marked (Moved c) = false
+abbrev pub is_ground_value : Value → Bool
+is_ground_value Unbound = false
+is_ground_value (Plain b t) = false
+is_ground_value (Ground b t) = true
+is_ground_value (Moved c) = false
 
 -- the number is bound, and its binding is marked
-abbrev pub mark_in : List Slot → ℕ → Bool
-mark_in [] i = false
-mark_in (s ∷ ss) zero = is_marked s.value
-mark_in (s ∷ ss) (suc i) = mark_in ss i
+abbrev pub ground_in : List Slot → ℕ → Bool
+ground_in [] i = false
+ground_in (s ∷ ss) zero = is_ground_value s.value
+ground_in (s ∷ ss) (suc i) = ground_in ss i
 
 -- what a marked variable is bound to stands for a term without variables when it is bound
-abbrev pub IsMarkedChange : (ℕ → Bool) → Change → Triple → Type 0
-IsMarkedChange m (Made n) a = Unit {0}
-IsMarkedChange m (Bound x t) a = m x.num ≡ true → HasNoVars (under a.bindings t)
-IsMarkedChange m (Added c) a = Unit {0}
-IsMarkedChange m (Taken x cs) a = Unit {0}
+abbrev pub IsGroundMark : (ℕ → Bool) → Change → Triple → Type 0
+IsGroundMark m (Made n) a = Unit {0}
+IsGroundMark m (Bound x t) a = m x.num ≡ true → HasNoVars (under a.bindings t)
+IsGroundMark m (Added c) a = Unit {0}
+IsGroundMark m (Taken x cs) a = Unit {0}
 
-abbrev pub AreMarked : (ℕ → Bool) → List Change → Triple → Type 0
-AreMarked m [] a = Unit {0}
-AreMarked m (c ∷ cs) a = IsMarkedChange m c a × AreMarked m cs (after c a)
+abbrev pub AreGroundMarks : (ℕ → Bool) → List Change → Triple → Type 0
+AreGroundMarks m [] a = Unit {0}
+AreGroundMarks m (c ∷ cs) a = IsGroundMark m c a × AreGroundMarks m cs (after c a)
 
-mark_prop : (m : ℕ → Bool) (c : Change) (a : Triple) → IsProp (IsMarkedChange m c a)
+mark_prop : (m : ℕ → Bool) (c : Change) (a : Triple) → IsProp (IsGroundMark m c a)
 mark_prop m (Made n) a = Unit-prop
 mark_prop m (Bound x t) a = hlevel props
 mark_prop m (Added c) a = Unit-prop
 mark_prop m (Taken x cs) a = Unit-prop
 
-pub marks_prop : (m : ℕ → Bool) (cs : List Change) (a : Triple) → IsProp (AreMarked m cs a)
+pub marks_prop : (m : ℕ → Bool) (cs : List Change) (a : Triple) → IsProp (AreGroundMarks m cs a)
 marks_prop m [] a = Unit-prop
-marks_prop m (c ∷ cs) a = let h : IsProp (IsMarkedChange m c a) = mark_prop m c a in let k : IsProp (AreMarked m cs (after c a)) = marks_prop m cs (after c a) in hlevel (props, h, k)
+marks_prop m (c ∷ cs) a = let h : IsProp (IsGroundMark m c a) = mark_prop m c a in let k : IsProp (AreGroundMarks m cs (after c a)) = marks_prop m cs (after c a) in hlevel (props, h, k)

@@ -86,7 +86,7 @@ fn occurs_below<'a>(
     first: Bare<'a>,
 ) -> Result<Occurrence, Memory>
     ensures found { IfOk result (λ o. does_occur o ≡ occurs_in store.now x first.entry) }
-    ensures ground { IfOk result (λ o. o ≡ Occurrence.Ground →
+    ensures no_vars { IfOk result (λ o. o ≡ Occurrence.Ground →
         HasNoVars (under (bindings_of store.now) (bare_term first.entry))) }
 {
     let mut is_open = false;
@@ -143,7 +143,7 @@ impl<'a> Store<'a> {
     /// variable is new, and takes memory where a left part of a pair is looked through alone.
     pub fn occurs(&self, alloc: Global, x: Var, c: &Closure<'a>) -> Result<Occurrence, Memory>
         ensures found { IfOk result (λ o. does_occur o ≡ occurs x (meaning_in self.now c.now)) }
-        ensures ground { IfOk result (λ o. o ≡ Occurrence.Ground →
+        ensures no_vars { IfOk result (λ o. o ≡ Occurrence.Ground →
             HasNoVars (meaning_in self.now c.now)) }
     {
         if self.is_new(x, c) {

@@ -6,7 +6,7 @@ ghost use Rattle.ap_defs.specs.Terms.{act_term, term_of};
 ghost use Rattle.ap_defs.specs.declared.terms.Swap.{Swap};
 ghost use Rattle.ap_perm.specs.Closures.{closure_term, lent_term};
 ghost use Rattle.ap_store.specs.Founds.{IsWhatIsFound, bare_term, is_ground_found};
-ghost use Rattle.ap_store.specs.Marks.{is_marked};
+ghost use Rattle.ap_store.specs.Marks.{is_ground_value};
 ghost use Rattle.ap_store.specs.Slots.{IsKeptBelow, value_term};
 
 use crate::bare::Bare;
@@ -35,13 +35,13 @@ pub struct Slot<'a> {
 }
 
 /// A binding to a term on which no swappings wait, marked where it is ground.
-pub fn plain_value<'a>(base: u32, term: &'a Term, ground: bool) -> Value<'a>
+pub fn plain_value<'a>(base: u32, term: &'a Term, is_ground: bool) -> Value<'a>
     ensures term { value_term result ≡ Some (rename_term base (term_of term.now)) }
     ensures below { (n : ℕ) → IsBelow n (rename_term base (term_of term.now)) →
         IsKeptBelow n result }
-    ensures mark { is_marked result ≡ ground }
+    ensures mark { is_ground_value result ≡ is_ground }
 {
-    if ground {
+    if is_ground {
         Value::Ground(base, term)
     } else {
         Value::Plain(base, term)
@@ -49,13 +49,13 @@ pub fn plain_value<'a>(base: u32, term: &'a Term, ground: bool) -> Value<'a>
 }
 
 /// A binding to a closure, which may stand for a term without variables.
-pub fn value_of<'a>(alloc: Global, c: Closure<'a>, ground: bool) -> Result<Value<'a>, Memory>
+pub fn value_of<'a>(alloc: Global, c: Closure<'a>, is_ground: bool) -> Result<Value<'a>, Memory>
     ensures term { IfOk result (λ b. value_term b ≡ Some (closure_term c.entry)) }
     ensures below { IfOk result (λ b. IsKeptBelow c.entry.end b) }
-    ensures mark { IfOk result (λ b. is_marked b ≡ true → ground ≡ true) }
+    ensures mark { IfOk result (λ b. is_ground_value b ≡ true → is_ground ≡ true) }
 {
     if c.swaps.is_empty() && c.base <= u32::MAX as u64 {
-        return Ok(plain_value(c.base as u32, c.term, ground));
+        return Ok(plain_value(c.base as u32, c.term, is_ground));
     }
     let moved = Box::new(alloc, c)?;
     Ok(Value::Moved(moved))
@@ -87,7 +87,7 @@ fn bare_of<'a>(c: &Closure<'a>) -> Bare<'a>
 pub fn found_value<'a>(b: &Value<'a>, end: u64) -> Found<'a>
     requires { IsKeptBelow end b.now }
     ensures found { IsWhatIsFound (value_term b.now) result }
-    ensures mark { is_ground_found result ≡ is_marked b.now }
+    ensures mark { is_ground_found result ≡ is_ground_value b.now }
 {
     match b {
         Value::Unbound => Found::Nothing,

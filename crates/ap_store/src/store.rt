@@ -2,7 +2,7 @@
 
 ghost use Rattle.ap_perm.specs.Lookups.{IsRanked};
 ghost use Rattle.ap_store.specs.Changes.{empty};
-ghost use Rattle.ap_store.specs.Marks.{AreMarked, mark_in, marks_prop};
+ghost use Rattle.ap_store.specs.Marks.{AreGroundMarks, ground_in, marks_prop};
 ghost use Rattle.ap_store.specs.Slots.{AreHeld, IsStored, changes_in, held_prop, stored_prop};
 ghost use Rattle.ap_store.specs.Trails.{no_rank, nothing_bound, rank_after, raw_after};
 
@@ -41,7 +41,9 @@ pub struct Store<'a> {
     reach: u64,
     pub ghost stored: { IsStored table.items trail.items noted.items reach } by { stored_prop table.items trail.items noted.items reach },
     pub ghost holds: { AreHeld held.items (changes_in table.items trail.items noted.items) } by { held_prop held.items (changes_in table.items trail.items noted.items) },
-    pub ghost marked: { AreMarked (mark_in table.items) (changes_in table.items trail.items noted.items) empty } by { marks_prop (mark_in table.items) (changes_in table.items trail.items noted.items) empty },
+    pub ghost marked: { AreGroundMarks (ground_in table.items)
+        (changes_in table.items trail.items noted.items) empty } by { marks_prop (ground_in table.items)
+            (changes_in table.items trail.items noted.items) empty },
     pub ghost ranked: { IsRanked (raw_after (changes_in table.items trail.items noted.items) nothing_bound)
         (rank_after (changes_in table.items trail.items noted.items) empty no_rank) },
 }
@@ -56,7 +58,7 @@ impl<'a> Store<'a> {
     ghost use Rattle.ap_perm.specs.Closures.{closure_term};
     ghost use Rattle.ap_theory.specs.Variables.{IsUnbound};
     ghost use Rattle.ap_store.specs.Changes.{has_on, replace_conditions, with_bound};
-    ghost use Rattle.ap_store.specs.Marks.{HasNoVars, is_marked};
+    ghost use Rattle.ap_store.specs.Marks.{HasNoVars, is_ground_value};
     ghost use Rattle.ap_store.specs.Slots.{IsKeptBelow, value_term, kept_term};
     ghost use Rattle.ap_store.specs.Triples.{AreOnUnbound, IsPrefixOf, is_apart, is_on, with_binding, with_conditions, with_next};
     ghost use Rattle.ap_store.specs.Views.{IsUnchanged, bindings_of, kinds, meaning_in, past, present, versions};
@@ -100,19 +102,20 @@ impl<'a> Store<'a> {
     }
 
     /// Binds an unbound variable to a closure in which it does not occur, marked where that is known to be
-    /// ground, and answers the conditions on the variable, which are taken out. After want of memory the store is as before.
+    /// ground, and answers the conditions on the variable, which are taken out. After want of memory the
+    /// store is as before.
     pub fn bind(
         &mut self,
         alloc: Global,
         x: Var,
         c: Closure<'a>,
-        ground: bool,
+        is_ground: bool,
     ) -> Result<Vec<Cond>, Memory>
         requires made { x.num < (present self.old).next }
         requires unbound { IsUnbound (bindings_of self.old) x }
         requires term { IsBelow (present self.old).next (closure_term c) }
         requires absent { occurs x (meaning_in self.old c) ≡ false }
-        requires ground { ground ≡ true → HasNoVars (meaning_in self.old c) }
+        requires no_vars { is_ground ≡ true → HasNoVars (meaning_in self.old c) }
         ensures taken { IfOk result (λ conds. conds.items
             ≡ filter (is_on x) (present self.old).conditions) }
         ensures present { OnOk result (present self.new
@@ -123,7 +126,7 @@ impl<'a> Store<'a> {
         ensures unchanged { OnErr result (IsUnchanged self.old self.new) }
     {
         let end = c.end;
-        let value = value_of(alloc, c, ground)?;
+        let value = value_of(alloc, c, is_ground)?;
         let taken = self.take_conditions(alloc, x)?;
         self.note_binding(x, value, end);
         Ok(taken)
@@ -131,14 +134,15 @@ impl<'a> Store<'a> {
 
     /// Binds an unbound variable, on which there are no conditions, to a term on which no swappings wait,
     /// whose identifiers are numbered from `base` on, below `end`, and in which it does not occur, marked where
-    /// that is known to be ground. After want of memory the store is as before; a `base` of `2 ^ 32` and more is such a want.
+    /// that is known to be ground. After want of memory the store is as before; a `base` of `2 ^ 32` and more
+    /// is such a want.
     pub fn bind_free(
         &mut self,
         x: Var,
         base: u64,
         end: u64,
         term: &'a Term,
-        ground: bool,
+        is_ground: bool,
     ) -> Result<(), Memory>
         requires made { x.num < (present self.old).next }
         requires unbound { IsUnbound (bindings_of self.old) x }
@@ -147,7 +151,7 @@ impl<'a> Store<'a> {
         requires term { IsBelow (present self.old).next (rename_term base (term_of term.now)) }
         requires absent { occurs x (under (bindings_of self.old)
             (rename_term base (term_of term.now))) ≡ false }
-        requires ground { ground ≡ true →
+        requires no_vars { is_ground ≡ true →
             HasNoVars (under (bindings_of self.old) (rename_term base (term_of term.now))) }
         ensures present { OnOk result (present self.new
             ≡ with_binding x (under (bindings_of self.old) (rename_term base (term_of term.now)))
@@ -160,7 +164,7 @@ impl<'a> Store<'a> {
             return Err(Memory);
         }
         self.make_room()?;
-        self.note_binding(x, plain_value(base as u32, term, ground), end);
+        self.note_binding(x, plain_value(base as u32, term, is_ground), end);
         Ok(())
     }
 
@@ -280,7 +284,7 @@ impl<'a> Store<'a> {
         requires term { IsBelow (present self.old).next (kept_term value) }
         requires within { IsKeptBelow end value }
         requires absent { occurs x (under (bindings_of self.old) (kept_term value)) ≡ false }
-        requires mark { is_marked value ≡ true →
+        requires mark { is_ground_value value ≡ true →
             HasNoVars (under (bindings_of self.old) (kept_term value)) }
         requires apart { has_on x (present self.old).conditions ≡ false }
         ensures present { present self.new

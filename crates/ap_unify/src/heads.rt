@@ -83,13 +83,13 @@ pub fn headed<'a>(store: &Store<'a>, mut p: Plain<'a>) -> PartWithHead<'a>
         IsBelow (present store.now).next (plain_term result.part) }
     ensures head { IsHead (bindings_of store.now) (plain_term result.part) result.head }
 {
-    let mut ground = false;
+    let mut is_ground = false;
     'following: loop {
         match look_at(store, p) {
             Look::Form => {
                 return PartWithHead {
                     part: p,
-                    head: Head::Form(ground),
+                    head: Head::Form(is_ground),
                 };
             }
             Look::Free(x) => {
@@ -107,7 +107,7 @@ pub fn headed<'a>(store: &Store<'a>, mut p: Plain<'a>) -> PartWithHead<'a>
             Look::Further(further) => p = further,
             Look::Ground(further) => {
                 p = further;
-                ground = true;
+                is_ground = true;
             }
         }
     }

@@ -52,13 +52,13 @@ fn bind_part<'a>(
     work: &mut Work<'a>,
     x: Var,
     p: Plain<'a>,
-    ground: bool,
+    is_ground: bool,
 ) -> Result<Turn, Memory>
     requires made { x.num < (present store.old).next }
     requires unbound { IsUnbound (bindings_of store.old) x }
     requires part { IsBelow (present store.old).next (plain_term p) }
     requires absent { occurs x (under (bindings_of store.old) (plain_term p)) ≡ false }
-    requires ground { ground ≡ true →
+    requires no_vars { is_ground ≡ true →
         HasNoVars (under (bindings_of store.old) (plain_term p)) }
     ensures turn { IfOk result (λ turn. (f : Ahead) → IsRuleFor turn f (bindings_of store.old)
         (bindings_of store.new) (bind x (under (bindings_of store.old) (plain_term p.entry)))) }
@@ -70,7 +70,7 @@ fn bind_part<'a>(
     ensures past { IsPrefixOf (versions store.old) (versions store.new) }
     ensures kinds { kinds store.new ≡ kinds store.old }
 {
-    bind_plain(alloc, store, work, x, p, ground)?;
+    bind_plain(alloc, store, work, x, p, is_ground)?;
     Ok(Turn::Done)
 }
 
@@ -81,12 +81,12 @@ fn bind_unless_occurs<'a>(
     work: &mut Work<'a>,
     x: Var,
     p: Plain<'a>,
-    ground: bool,
+    is_ground: bool,
 ) -> Result<Turn, Memory>
     requires made { x.num < (present store.old).next }
     requires unbound { IsUnbound (bindings_of store.old) x }
     requires part { IsBelow (present store.old).next (plain_term p) }
-    requires ground { ground ≡ true →
+    requires no_vars { is_ground ≡ true →
         HasNoVars (under (bindings_of store.old) (plain_term p)) }
     ensures turn { IfOk result (λ turn. (f : Ahead) → IsRuleFor turn f (bindings_of store.old)
         (bindings_of store.new) (unless_occurs x
@@ -100,7 +100,7 @@ fn bind_unless_occurs<'a>(
     ensures past { IsPrefixOf (versions store.old) (versions store.new) }
     ensures kinds { kinds store.new ≡ kinds store.old }
 {
-    if ground {
+    if is_ground {
         return bind_part(alloc, store, work, x, p, true);
     }
     let c = p.closure(alloc);
@@ -250,11 +250,11 @@ fn by_heads<'a>(
 {
     match (left, right) {
         (Head::Form(_), Head::Form(_)) => Ok(forms(ahead)),
-        (Head::Free(x), Head::Form(ground)) => {
-            bind_unless_occurs(alloc, store, work, x, ahead.next.right, ground)
+        (Head::Free(x), Head::Form(is_ground)) => {
+            bind_unless_occurs(alloc, store, work, x, ahead.next.right, is_ground)
         }
-        (Head::Form(ground), Head::Free(y)) => {
-            bind_unless_occurs(alloc, store, work, y, ahead.next.left, ground)
+        (Head::Form(is_ground), Head::Free(y)) => {
+            bind_unless_occurs(alloc, store, work, y, ahead.next.left, is_ground)
         }
         (Head::Free(x), Head::Free(y)) => variables(alloc, store, work, x, y, ahead.next),
         _ => Ok(Turn::Other),

@@ -34,7 +34,7 @@ impl<'a> Store<'a> {
     /// What a look at a variable finds. It takes no memory.
     pub fn found(&self, x: Var) -> Found<'a>
         ensures found { IsWhatIsFound (raw_bound self.now x) result }
-        ensures ground { is_ground_found result ≡ true →
+        ensures no_vars { is_ground_found result ≡ true →
             HasNoVars (under (bindings_of self.now) (susp [] x)) }
     {
         found_at(&self.table, x.num, self.reach)

@@ -23,8 +23,8 @@ bind_var-requires-clause-below c = subst (IsBelow (present c.args.store.now).nex
 pub bind_var-requires-clause-absent : goal.bind_var-requires-clause-absent
 bind_var-requires-clause-absent c = ap (λ (t : NominalTerm). occurs c.args.x (under (bindings_of c.args.store.now) t)) c.closure.ensures ∙ c.requires.absent
 
-pub bind_var-requires-clause-ground : goal.bind_var-requires-clause-ground
-bind_var-requires-clause-ground c = λ h. subst (λ (t : NominalTerm). HasNoVars (under (bindings_of c.args.store.now) t)) (sym c.closure.ensures) (c.requires.ground h)
+pub bind_var-requires-clause-no_vars : goal.bind_var-requires-clause-no_vars
+bind_var-requires-clause-no_vars c = λ h. subst (λ (t : NominalTerm). HasNoVars (under (bindings_of c.args.store.now) t)) (sym c.closure.ensures) (c.requires.no_vars h)
 
 pub returns-then-has_conditions-clause-bindings : goal.returns-then-has_conditions-clause-bindings
 returns-then-has_conditions-clause-bindings c =

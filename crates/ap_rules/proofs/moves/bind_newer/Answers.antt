@@ -21,8 +21,8 @@ bind_to-requires-clause-absent c =
     let less = c.requires.numbers in
     other_absent (meaning_in c.args.store.now c.args.older) p c.args.x c.args.y e (λ (i : c.args.x.num ≡ c.args.y.num). omega (arith, i, less))
 
-pub bind_to-requires-clause-ground : goal.bind_to-requires-clause-ground
-bind_to-requires-clause-ground c = λ h. absurd (true≢false (sym h))
+pub bind_to-requires-clause-no_vars : goal.bind_to-requires-clause-no_vars
+bind_to-requires-clause-no_vars c = λ h. absurd (true≢false (sym h))
 
 pub returns-clause-left : goal.returns-clause-left
 returns-clause-left c =

@@ -14,5 +14,5 @@ returns-clause-fit c =
       c.requires.unbound,
       back_below (present c.args.store.now).next p t u c.requires.swaps c.requires.below e,
       back_absent s c.args.x p t u c.requires.absent e,
-      (λ h. back_ground s p t u (c.requires.ground h) e),
+      (λ h. back_ground s p t u (c.requires.no_vars h) e),
     )

@@ -88,8 +88,8 @@ returns-then-x-y-clause-found c =
     ∙ same_number c.args.x.num (c.seeking.base + c.in-Susp.y.num) c.if-x-y.true in
     sym (ap (λ o. o || occurs_in_any s c.args.x c.seeking.waiting.items) here) ∙ c.seeking.invariant.all c.args.x (λ o. refl)
 
-pub returns-then-x-y-clause-ground : goal.returns-then-x-y-clause-ground
-returns-then-x-y-clause-ground c = λ e. absurd (true≢false (ap does_occur e))
+pub returns-then-x-y-clause-no_vars : goal.returns-then-x-y-clause-no_vars
+returns-then-x-y-clause-no_vars c = λ e. absurd (true≢false (ap does_occur e))
 
 pub returns-in_default-clause-found : goal.returns-in_default-clause-found
 returns-in_default-clause-found c =
@@ -109,8 +109,8 @@ returns-in_default-clause-found c =
     ] in
     ap does_occur c.without.ensures ∙ not_found c.match-rest.is_open ∙ all
 
-pub returns-in_default-clause-ground : goal.returns-in_default-clause-ground
-returns-in_default-clause-ground c =
+pub returns-in_default-clause-no_vars : goal.returns-in_default-clause-no_vars
+returns-in_default-clause-no_vars c =
     let s = c.args.store.now in
     let none : c.seeking.waiting.items ≡ [] =
     c.in_default.ensures.items ∙ append-nil c.pop.new.self.items ∙ nil_from_length c.pop.new.self.items (let l = c.pop.new.self.ok.0 in let h = c.in_default.ensures.cases in omega (arith, l, h.1)) in

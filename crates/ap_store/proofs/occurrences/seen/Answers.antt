@@ -9,7 +9,7 @@ pub returns-in-Nothing : goal.returns-in-Nothing
 returns-in-Nothing c = subst (IsWhatIsFound (raw_bound c.args.store.now c.args.x)) c.in-Nothing.is c.found.ensures.found
 
 pub returns-in-Ground : goal.returns-in-Ground
-returns-in-Ground c = c.found.ensures.ground (ap is_ground_found c.in-Ground.is)
+returns-in-Ground c = c.found.ensures.no_vars (ap is_ground_found c.in-Ground.is)
 
 pub returns-in-Plain : goal.returns-in-Plain
 returns-in-Plain c = ([], subst (IsWhatIsFound (raw_bound c.args.store.now c.args.x)) c.in-Plain.is c.found.ensures.found ∙ ap Some (sym (act_term_none (bare_term c.in-Plain.b))))

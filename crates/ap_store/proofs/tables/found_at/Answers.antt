@@ -3,7 +3,7 @@ use Rattle.std.specs.Prelude.{Option}
 use Rattle.ap_defs.specs.Terms.{NominalTerm}
 use Rattle.ap_store.specs.Founds.{IsWhatIsFound}
 use Rattle.ap_store.proofs.ReachLemmas.{kept_at}
-use Rattle.ap_store.proofs.TableLemmas.{bound_in_beyond, bound_in_get, mark_in_beyond, mark_in_get}
+use Rattle.ap_store.proofs.TableLemmas.{bound_in_beyond, bound_in_get, ground_in_beyond, ground_in_get}
 use Rattle.ap_store.proofs.tables.found_at.Goals as goal
 
 pub found_value-requires : goal.found_value-requires
@@ -24,9 +24,9 @@ returns-else-num-table-clause-found c =
 pub returns-then-num-table-clause-mark : goal.returns-then-num-table-clause-mark
 returns-then-num-table-clause-mark c =
     let l : c.args.num < length c.args.table.now = omega arith in
-    c.found_value.ensures.mark ∙ sym (mark_in_get c.args.table.now c.args.num c.index-table-num.result l)
+    c.found_value.ensures.mark ∙ sym (ground_in_get c.args.table.now c.args.num c.index-table-num.result l)
 
 pub returns-else-num-table-clause-mark : goal.returns-else-num-table-clause-mark
 returns-else-num-table-clause-mark c =
     let l : length c.args.table.now ≤ c.args.num = omega arith in
-    sym (mark_in_beyond c.args.table.now c.args.num l)
+    sym (ground_in_beyond c.args.table.now c.args.num l)

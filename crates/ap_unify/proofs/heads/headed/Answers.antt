@@ -7,7 +7,7 @@ use Rattle.ap_unify.specs.declared.heads.Look.TheVariants as looks
 use Rattle.ap_equations.specs.Plain.{plain_term}
 
 pub following-init : goal.following-init
-following-init c = record { meaning = refl; ground = λ h. absurd (true≢false (sym h)); below = λ h. h }
+following-init c = record { meaning = refl; no_vars = λ h. absurd (true≢false (sym h)); below = λ h. h }
 
 pub following-smaller : goal.following-smaller
 following-smaller c =
@@ -22,7 +22,7 @@ following-preserved c =
     let t = plain_term c.following.p in
     let k : IsFurther (present s) (rank s) t (plain_term c.in-Further.further) = subst (IsLook (present s) (rank s) t) c.in-Further.is c.look_at.ensures in
     let (e, b, l) = k in
-    record { meaning = e ∙ c.following.invariant.meaning; ground = λ h y. ap (occurs y) e ∙ c.following.invariant.ground h y; below = λ h. b (c.following.invariant.below h) }
+    record { meaning = e ∙ c.following.invariant.meaning; no_vars = λ h y. ap (occurs y) e ∙ c.following.invariant.no_vars h y; below = λ h. b (c.following.invariant.below h) }
 
 pub following-smaller-in-Ground : goal.following-smaller-in-Ground
 following-smaller-in-Ground c =
@@ -37,13 +37,13 @@ following-preserved-in-Ground c =
     let t = plain_term c.following.p in
     let k : IsLook (present s) (rank s) t (looks.Ground c.in-Ground.further) = subst (IsLook (present s) (rank s) t) c.in-Ground.is c.look_at.ensures in
     let (e, b, l) = k.0 in
-    record { meaning = e ∙ c.following.invariant.meaning; ground = λ h. k.1; below = λ h. b (c.following.invariant.below h) }
+    record { meaning = e ∙ c.following.invariant.meaning; no_vars = λ h. k.1; below = λ h. b (c.following.invariant.below h) }
 
 pub returns-in-Form-clause-head : goal.returns-in-Form-clause-head
 returns-in-Form-clause-head c =
     let s = c.args.store.now in
     let k = subst (IsLook (present s) (rank s) (plain_term c.following.p)) c.in-Form.is c.look_at.ensures in
-    (k, c.following.invariant.ground)
+    (k, c.following.invariant.no_vars)
 
 pub returns-in-Free-clause-head : goal.returns-in-Free-clause-head
 returns-in-Free-clause-head c =

@@ -11,7 +11,7 @@ use Rattle.ap_unify.proofs.heads.headed.Given as goal
 abbrev pub invariant-following : goal.invariant-following
 invariant-following l = record {
   meaning : under (bindings_of l.store) (plain_term l.p) ≡ under (bindings_of l.store) (plain_term l.initial.p);
-  ground : l.ground ≡ true → HasNoVars (under (bindings_of l.store) (plain_term l.p));
+  no_vars : l.is_ground ≡ true → HasNoVars (under (bindings_of l.store) (plain_term l.p));
   below : IsBelow (present l.store).next (plain_term l.initial.p) → IsBelow (present l.store).next (plain_term l.p);
 }
 

@@ -58,4 +58,4 @@ returns-in-Ground c =
     let k : raw_bound s x ≡ Some v = subst (IsWhatIsFound (raw_bound s x)) c.in-Ground.is c.found.ensures.found in
     let f = found_further s x v (plain_term p) v (plain_susp p c.in-Susp.q c.in-Susp.x c.in-Susp.is n) refl k in
     let g = found_further s x v (susp [] x) v refl refl k in
-    (f, λ y. ap (occurs y) g.0 ∙ c.found.ensures.ground (ap is_ground_found c.in-Ground.is) y)
+    (f, λ y. ap (occurs y) g.0 ∙ c.found.ensures.no_vars (ap is_ground_found c.in-Ground.is) y)

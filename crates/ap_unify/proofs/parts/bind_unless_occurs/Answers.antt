@@ -12,13 +12,13 @@ use Rattle.ap_equations.specs.Plain.{plain_term}
 use Rattle.ap_rules.specs.Runs.{equation_under, problem_under}
 
 pub bind_part-requires-clause-absent : goal.bind_part-requires-clause-absent
-bind_part-requires-clause-absent c = c.requires.ground c.if-ground.true c.args.x
+bind_part-requires-clause-absent c = c.requires.no_vars c.if-is_ground.true c.args.x
 
-pub returns-then-ground-clause-turn : goal.returns-then-ground-clause-turn
-returns-then-ground-clause-turn c =
+pub returns-then-is_ground-clause-turn : goal.returns-then-is_ground-clause-turn
+returns-then-is_ground-clause-turn c =
     let s = bindings_of c.args.store.now in
     let t = under s (plain_term c.args.p) in
-    let e = c.requires.ground c.if-ground.true c.args.x in
+    let e = c.requires.no_vars c.if-is_ground.true c.args.x in
     if_ok c.bind_part.result (λ turn h. λ f. subst (IsRuleFor turn f s (bindings_of c.bind_part.new.store)) (sym (bind_if_absent c.args.x t e)) (h f)) c.bind_part.ensures.turn
 
 pub returns-then-occurs-clause-turn : goal.returns-then-occurs-clause-turn
@@ -32,9 +32,9 @@ pub bind_part-requires-2-clause-absent : goal.bind_part-requires-2-clause-absent
 bind_part-requires-2-clause-absent c =
     ap (λ (u : NominalTerm). occurs c.args.x (under (bindings_of c.args.store.now) u)) (sym c.closure-c.ensures) ∙ sym c.in_ok-found.ensures.found ∙ sym c.occurs.ensures ∙ c.if-occurs.false
 
-pub bind_part-requires-2-clause-ground : goal.bind_part-requires-2-clause-ground
-bind_part-requires-2-clause-ground c =
-    λ h. subst (λ (u : NominalTerm). HasNoVars (under (bindings_of c.args.store.now) u)) c.closure-c.ensures (c.in_ok-found.ensures.ground (c.is_ground.ensures h))
+pub bind_part-requires-2-clause-no_vars : goal.bind_part-requires-2-clause-no_vars
+bind_part-requires-2-clause-no_vars c =
+    λ h. subst (λ (u : NominalTerm). HasNoVars (under (bindings_of c.args.store.now) u)) c.closure-c.ensures (c.in_ok-found.ensures.no_vars (c.is_ground.ensures h))
 
 pub returns-clause-turn : goal.returns-clause-turn
 returns-clause-turn c =

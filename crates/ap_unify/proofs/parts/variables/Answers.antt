@@ -20,11 +20,11 @@ bind_part-requires-else-x-y-2-clause-absent c =
     let e : var_eq c.args.x c.args.y ≡ false = grind (arith, nat_tests, l) in
     free_absent (bindings_of c.args.store.now) c.args.x c.args.y (plain_term c.args.pair.right) c.requires.right c.requires.right_unbound e
 
-pub bind_part-requires-clause-ground : goal.bind_part-requires-clause-ground
-bind_part-requires-clause-ground c = λ h. absurd (true≢false (sym h))
+pub bind_part-requires-clause-no_vars : goal.bind_part-requires-clause-no_vars
+bind_part-requires-clause-no_vars c = λ h. absurd (true≢false (sym h))
 
-pub bind_part-requires-else-x-y-2-clause-ground : goal.bind_part-requires-else-x-y-2-clause-ground
-bind_part-requires-else-x-y-2-clause-ground c = λ h. absurd (true≢false (sym h))
+pub bind_part-requires-else-x-y-2-clause-no_vars : goal.bind_part-requires-else-x-y-2-clause-no_vars
+bind_part-requires-else-x-y-2-clause-no_vars c = λ h. absurd (true≢false (sym h))
 
 pub returns-then-x-y-clause-turn : goal.returns-then-x-y-clause-turn
 returns-then-x-y-clause-turn c =

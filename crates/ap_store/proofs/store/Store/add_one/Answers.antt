@@ -1,7 +1,7 @@
 use Rattle.std.proofs.Common.{◌≡◌, ◌++◌, [], ◌∷◌, List, ap, ap₂, sym, subst, ◌∙◌}
 use Rattle.ap_perm.specs.Lookups.{IsRanked}
 use Rattle.ap_store.specs.Changes.{Added, Change, empty}
-use Rattle.ap_store.specs.Marks.{AreMarked, mark_in}
+use Rattle.ap_store.specs.Marks.{AreGroundMarks, ground_in}
 use Rattle.ap_store.specs.Slots.{AreHeld, IsStored, changes_in}
 use Rattle.ap_store.specs.Trails.{no_rank, nothing_bound, rank_after, raw_after}
 use Rattle.ap_store.specs.Views.{changes, versions}
@@ -27,7 +27,7 @@ invariant_of-self-in-Break-branch-3 c =
     record {
       stored = subst (λ (ms : List Noted). IsStored s.table.items es ms s.reach) f (subst (λ (fs : List Entry). IsStored s.table.items fs s.noted.items s.reach) e s.stored);
       holds = held_kept s.held.items c.hold.new.held.items (changes_in s.table.items es ns) (subst (AreHeld s.held.items) g s.holds) c.hold.ensures.length c.in_err-hold.ensures.unchanged;
-      marked = subst (λ (cs : List Change). AreMarked (mark_in s.table.items) cs empty) g s.marked;
+      marked = subst (λ (cs : List Change). AreGroundMarks (ground_in s.table.items) cs empty) g s.marked;
       ranked = subst (λ (cs : List Change). IsRanked (raw_after cs nothing_bound) (rank_after cs empty no_rank)) g s.ranked;
     }
 

@@ -34,7 +34,7 @@ pub note_binding-requires-clause-mark : goal.note_binding-requires-clause-mark
 note_binding-requires-clause-mark c =
     let e : kept_term c.in_ok-value.value ≡ closure_term c.args.c = ap term_or_unit c.in_ok-value.ensures.term in
     λ h. subst (λ (a : Triple). HasNoVars (under a.bindings (kept_term c.in_ok-value.value))) (sym c.in_ok-taken.ensures.present)
-    (subst (λ (t : NominalTerm). HasNoVars (under (bindings_of c.args.self.now) t)) (sym e) (c.requires.ground (c.in_ok-value.ensures.mark h)))
+    (subst (λ (t : NominalTerm). HasNoVars (under (bindings_of c.args.self.now) t)) (sym e) (c.requires.no_vars (c.in_ok-value.ensures.mark h)))
 
 pub returns-clause-present : goal.returns-clause-present
 returns-clause-present c =

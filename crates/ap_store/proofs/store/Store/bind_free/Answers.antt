@@ -39,7 +39,7 @@ pub note_binding-requires-clause-mark : goal.note_binding-requires-clause-mark
 note_binding-requires-clause-mark c =
     let e : kept_term c.plain_value.result ≡ rename_term c.args.base (term_of c.args.term.now) = ap term_or_unit c.plain_value.ensures.term in
     λ h. subst (λ (a : Triple). HasNoVars (under a.bindings (kept_term c.plain_value.result))) (sym c.make_room.ensures.present)
-    (subst (λ (t : NominalTerm). HasNoVars (under (bindings_of c.args.self.now) t)) (sym e) (c.requires.ground (sym c.plain_value.ensures.mark ∙ h)))
+    (subst (λ (t : NominalTerm). HasNoVars (under (bindings_of c.args.self.now) t)) (sym e) (c.requires.no_vars (sym c.plain_value.ensures.mark ∙ h)))
 
 pub note_binding-requires-clause-apart : goal.note_binding-requires-clause-apart
 note_binding-requires-clause-apart c = ap (λ (a : Triple). has_on c.args.x a.conditions) c.make_room.ensures.present ∙ c.requires.apart

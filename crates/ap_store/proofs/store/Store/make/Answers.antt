@@ -1,6 +1,6 @@
 use Rattle.std.proofs.Common.{◌≡◌, ◌<◌, ◌+◌, ◌^◌, ◌++◌, [], ◌∷◌, List, length, ap, subst, sym, ◌∙◌, arith}
 use Rattle.ap_store.specs.Changes.{Made, empty}
-use Rattle.ap_store.specs.Marks.{mark_in}
+use Rattle.ap_store.specs.Marks.{ground_in}
 use Rattle.ap_store.specs.Slots.{AreKeptBelow, bound_in, changes_in}
 use Rattle.ap_store.specs.Views.{changes, versions}
 use Rattle.ap_store.specs.declared.changes.Entry.{Entry}
@@ -22,7 +22,7 @@ invariant_of-self-2 c =
     let l : length us ≡ length s.table.items + n = omega (arith, c.add_slots.ensures.length, ap length c.reserve.ensures.items) in
     let e : ts ≡ s.trail.items ++ entries.Made n ∷ [] = c.push_reserved.ensures.items ∙ ap (λ (es : List Entry). es ++ entries.Made n ∷ []) c.reserve-2.ensures.items in
     let f : (i : _) → bound_in us i ≡ bound_in s.table.items i = λ i. c.add_slots.ensures.bound i ∙ ap (λ (ss : List Slot). bound_in ss i) c.reserve.ensures.items in
-    let marks : (i : _) → mark_in us i ≡ mark_in s.table.items i = λ i. c.add_slots.ensures.marks i ∙ ap (λ (ss : List Slot). mark_in ss i) c.reserve.ensures.items in
+    let marks : (i : _) → ground_in us i ≡ ground_in s.table.items i = λ i. c.add_slots.ensures.marks i ∙ ap (λ (ss : List Slot). ground_in ss i) c.reserve.ensures.items in
     let k : AreKeptBelow s.reach us = c.add_slots.ensures.below s.reach (subst (λ (ss : List Slot). AreKeptBelow s.reach ss) (sym c.reserve.ensures.items) s.stored.4) in
     let m : length us < 2 ^ 32 = omega (arith, l, c.len-first.ensures) in
     let kept = stored_made s.table.items us s.trail.items ts s.noted.items s.reach n s.stored l f k m e in

@@ -5,15 +5,15 @@ use Rattle.ap_store.proofs.FollowLemmas.{bare_occurs}
 use Rattle.ap_store.proofs.WaitingLemmas.{apart_not_ground}
 use Rattle.ap_store.proofs.store.Store.occurs.Goals as goal
 
-pub returns-then-is_new-clause-ground : goal.returns-then-is_new-clause-ground
-returns-then-is_new-clause-ground c = λ e. absurd (apart_not_ground e)
+pub returns-then-is_new-clause-no_vars : goal.returns-then-is_new-clause-no_vars
+returns-then-is_new-clause-no_vars c = λ e. absurd (apart_not_ground e)
 
 pub returns-clause-found : goal.returns-clause-found
 returns-clause-found c =
     let b = c.args.c.now in
     c.in_ok-found.ensures.found ∙ sym (bare_occurs c.args.self.now c.args.x b.swaps.items (rename_term b.base (term_of b.term.now)))
 
-pub returns-clause-ground : goal.returns-clause-ground
-returns-clause-ground c =
+pub returns-clause-no_vars : goal.returns-clause-no_vars
+returns-clause-no_vars c =
     let b = c.args.c.now in
-    λ e y. bare_occurs c.args.self.now y b.swaps.items (rename_term b.base (term_of b.term.now)) ∙ c.in_ok-found.ensures.ground e y
+    λ e y. bare_occurs c.args.self.now y b.swaps.items (rename_term b.base (term_of b.term.now)) ∙ c.in_ok-found.ensures.no_vars e y

@@ -1,7 +1,7 @@
 use Rattle.std.proofs.Common.{◌≡◌, ◌≤◌, ◌-◌, ◌++◌, ◌==◌, [], ◌∷◌, List, length, take, min, refl, ap, sym, subst, ◌∙◌, arith}
 use Rattle.std.specs.Prelude.{None, if◌then◌else◌}
 use Rattle.ap_store.specs.Changes.{Made, empty, present_after}
-use Rattle.ap_store.specs.Marks.{mark_in}
+use Rattle.ap_store.specs.Marks.{ground_in}
 use Rattle.ap_store.specs.Slots.{AreKeptBelow, IsStored, bound_in, changes_in}
 use Rattle.ap_store.specs.Views.{changes}
 use Rattle.ap_store.specs.declared.changes.Entry.{Entry}
@@ -37,7 +37,7 @@ invariant_of-self-in-Some-Made c =
     let left : c.len.result - n ≡ length s.table.items - n = ap (λ k. k - n) m in
     let k = undone_made s.table.items us es s.trail.items s.noted.items s.reach n s.stored e (c.truncate.ensures.items ∙ ap (λ j. take j s.table.items) left) in
     let kept : IsStored us es s.noted.items c.min-self.result = subst (IsStored us es s.noted.items) (sym (c.min-self.ensures ∙ ap (min s.reach) left)) k.0 in
-    let marks = marked_before s.table.items us (changes_in us es s.noted.items) (changes s) (Made n) s.marked k.1 (λ i l. mark_in_take s.table.items (c.len.result - n) i (ap (λ (vs : List Slot). mark_in vs i) (sym c.truncate.ensures.items) ∙ l)) in
+    let marks = marked_before s.table.items us (changes_in us es s.noted.items) (changes s) (Made n) s.marked k.1 (λ i l. mark_in_take s.table.items (c.len.result - n) i (ap (λ (vs : List Slot). ground_in vs i) (sym c.truncate.ensures.items) ∙ l)) in
     record { stored = kept; holds = unheld_made s.held.items (changes_in us es s.noted.items) (changes s) n s.holds k.1; marked = marks; ranked = ranked_after (changes_in us es s.noted.items) kept.0 }
 
 pub returns-in-Some-Made-clause-versions : goal.returns-in-Some-Made-clause-versions
@@ -87,7 +87,7 @@ invariant_of-self-in-Some-Bound c =
     let us = c.put_value.new.table.items in
     let e : s.trail.items ≡ es ++ entries.Bound i ∷ [] = c.in-Some-Bound.ensures.items ∙ ap (λ (d : Entry). es ++ d ∷ []) c.in-Some-Bound.field-0-is in
     let k = undone_bound s.table.items us es s.trail.items s.noted.items s.reach i s.stored e c.put_value.ensures.length c.put_value.ensures.bound (c.put_value.ensures.below s.reach tt s.stored.4) in
-    let marks = marked_before s.table.items us (changes_in us es s.noted.items) (changes s) _ s.marked k.1 (λ j l. mark_off i j (mark_in s.table.items j) (mark_in us j) (c.put_value.ensures.marks j) l) in
+    let marks = marked_before s.table.items us (changes_in us es s.noted.items) (changes s) _ s.marked k.1 (λ j l. mark_off i j (ground_in s.table.items j) (ground_in us j) (c.put_value.ensures.marks j) l) in
     record { stored = k.0; holds = unheld_bound s.held.items (changes_in us es s.noted.items) (changes s) _ _ s.holds k.1; marked = marks; ranked = ranked_after (changes_in us es s.noted.items) k.0.0 }
 
 pub returns-in-Some-Bound-clause-versions : goal.returns-in-Some-Bound-clause-versions
