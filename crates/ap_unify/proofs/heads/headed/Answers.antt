@@ -9,30 +9,30 @@ use Rattle.ap_equations.specs.Plain.{plain_term}
 pub following-init : goal.following-init
 following-init c = record { meaning = refl; no_vars = λ h. absurd (true≢false (sym h)); below = λ h. h }
 
-pub following-smaller : goal.following-smaller
-following-smaller c =
+pub following-smaller-in-Further : goal.following-smaller-in-Further
+following-smaller-in-Further c =
     let s = c.args.store.now in
     let t = plain_term c.following.p in
     let k : IsFurther (present s) (rank s) t (plain_term c.in-Further.further) = subst (IsLook (present s) (rank s) t) c.in-Further.is c.look_at.ensures in
     let (e, b, l) = k in l
 
-pub following-preserved : goal.following-preserved
-following-preserved c =
+pub following-preserved-in-Further : goal.following-preserved-in-Further
+following-preserved-in-Further c =
     let s = c.args.store.now in
     let t = plain_term c.following.p in
     let k : IsFurther (present s) (rank s) t (plain_term c.in-Further.further) = subst (IsLook (present s) (rank s) t) c.in-Further.is c.look_at.ensures in
     let (e, b, l) = k in
     record { meaning = e ∙ c.following.invariant.meaning; no_vars = λ h y. ap (occurs y) e ∙ c.following.invariant.no_vars h y; below = λ h. b (c.following.invariant.below h) }
 
-pub following-smaller-in-Ground : goal.following-smaller-in-Ground
-following-smaller-in-Ground c =
+pub following-smaller : goal.following-smaller
+following-smaller c =
     let s = c.args.store.now in
     let t = plain_term c.following.p in
     let k : IsLook (present s) (rank s) t (looks.Ground c.in-Ground.further) = subst (IsLook (present s) (rank s) t) c.in-Ground.is c.look_at.ensures in
     let (e, b, l) = k.0 in l
 
-pub following-preserved-in-Ground : goal.following-preserved-in-Ground
-following-preserved-in-Ground c =
+pub following-preserved : goal.following-preserved
+following-preserved c =
     let s = c.args.store.now in
     let t = plain_term c.following.p in
     let k : IsLook (present s) (rank s) t (looks.Ground c.in-Ground.further) = subst (IsLook (present s) (rank s) t) c.in-Ground.is c.look_at.ensures in

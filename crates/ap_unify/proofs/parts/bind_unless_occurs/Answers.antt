@@ -25,12 +25,12 @@ pub returns-then-occurs-clause-turn : goal.returns-then-occurs-clause-turn
 returns-then-occurs-clause-turn c = λ f es ps.
     let s = bindings_of c.args.store.now in
     let t = under s (plain_term c.args.p) in
-    let e = ap (λ (u : NominalTerm). occurs c.args.x (under s u)) (sym c.closure-c.ensures) ∙ sym c.in_ok-found.ensures.found ∙ sym c.occurs.ensures ∙ c.if-occurs.true in
+    let e = ap (λ (u : NominalTerm). occurs c.args.x (under s u)) (sym c.closure-c.ensures) ∙ sym c.in_ok-found.ensures.found ∙ sym c.occurs-2.ensures ∙ c.if-occurs.true in
     ap (λ (r : Rule). apply_rule r (map (equation_under s) es) (map (problem_under s) ps) s) (sym (clash_if_occurs c.args.x t e))
 
 pub bind_part-requires-2-clause-absent : goal.bind_part-requires-2-clause-absent
 bind_part-requires-2-clause-absent c =
-    ap (λ (u : NominalTerm). occurs c.args.x (under (bindings_of c.args.store.now) u)) (sym c.closure-c.ensures) ∙ sym c.in_ok-found.ensures.found ∙ sym c.occurs.ensures ∙ c.if-occurs.false
+    ap (λ (u : NominalTerm). occurs c.args.x (under (bindings_of c.args.store.now) u)) (sym c.closure-c.ensures) ∙ sym c.in_ok-found.ensures.found ∙ sym c.occurs-2.ensures ∙ c.if-occurs.false
 
 pub bind_part-requires-2-clause-no_vars : goal.bind_part-requires-2-clause-no_vars
 bind_part-requires-2-clause-no_vars c =
@@ -40,5 +40,5 @@ pub returns-clause-turn : goal.returns-clause-turn
 returns-clause-turn c =
     let s = bindings_of c.args.store.now in
     let t = under s (plain_term c.args.p) in
-    let e = ap (λ (u : NominalTerm). occurs c.args.x (under s u)) (sym c.closure-c.ensures) ∙ sym c.in_ok-found.ensures.found ∙ sym c.occurs.ensures ∙ c.if-occurs.false in
+    let e = ap (λ (u : NominalTerm). occurs c.args.x (under s u)) (sym c.closure-c.ensures) ∙ sym c.in_ok-found.ensures.found ∙ sym c.occurs-2.ensures ∙ c.if-occurs.false in
     if_ok c.bind_part-2.result (λ turn h. λ f. subst (IsRuleFor turn f s (bindings_of c.bind_part-2.new.store)) (sym (bind_if_absent c.args.x t e)) (h f)) c.bind_part-2.ensures.turn

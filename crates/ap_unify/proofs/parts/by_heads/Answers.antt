@@ -38,11 +38,11 @@ bind_unless_occurs-requires-in-Free-Form-clause-no_vars c =
 
 pub forms-requires-clause-left_form : goal.forms-requires-clause-left_form
 forms-requires-clause-left_form c =
-    (head_form (bindings_of c.args.store.now) (plain_term c.args.ahead.now.next.left) c.args.left c.in-Form-Form.field-0 c.requires.left c.in-Form-Form.is-0).0
+    (head_form (bindings_of c.args.store.now) (plain_term c.args.ahead.now.next.left) c.args.left c.in-Form-Form.field-0-0 c.requires.left c.in-Form-Form.is-0).0
 
 pub forms-requires-clause-right_form : goal.forms-requires-clause-right_form
 forms-requires-clause-right_form c =
-    (head_form (bindings_of c.args.store.now) (plain_term c.args.ahead.now.next.right) c.args.right c.in-Form-Form.field-1 c.requires.right c.in-Form-Form.is-1).0
+    (head_form (bindings_of c.args.store.now) (plain_term c.args.ahead.now.next.right) c.args.right c.in-Form-Form.field-0-1 c.requires.right c.in-Form-Form.is-1).0
 
 pub returns-in-Form-Form-clause-below : goal.returns-in-Form-Form-clause-below
 returns-in-Form-Form-clause-below c = c.forms.ensures.below (present c.args.store.now).next c.requires.below
