@@ -206,6 +206,15 @@ search("branches that are cut in a row", "pred p. p :- p. p :- p. ?- p.", tree)
 search("answers of a tree", "pred p. p. p :- p, z = z. p :- p. ?- p.", lambda steps: tree(steps) + 1)
 
 
+def by_halves(steps):
+    """A recursion that calls itself twice, and builds as many parts round a variable that is older than they are."""
+    clauses = (f"pred b{i + 1}(t, t). b{i + 1}(X, Z) :- b{i}(X, Y), b{i}(Y, Z). " for i in range(tree(steps)))
+    return BEGIN + "pred b0(t, t). b0(X, s(X)). " + "".join(clauses) + f"?- exists X (b{tree(steps)}(z, X))."
+
+
+SEARCHES["a term that is built round an older variable"] = by_halves, lambda steps: tree(steps) + 2
+
+
 def doubled(size):
     """Variables, each the pair of the one before twice: as many as make a term of so many parts."""
     count = max(2, size.bit_length() - 6)

@@ -1,10 +1,11 @@
 //! What the rules make of the work that is left.
 
-ghost use Rattle.std.specs.Prelude.{◌≡◌, ◌<◌, ◌∷◌, [], ◌++◌, false, IfOk, OnOk, map};
+ghost use Rattle.std.specs.Prelude.{◌≡◌, ◌<◌, ◌∷◌, [], ◌++◌, false, true, IfOk, OnOk, map};
 ghost use Rattle.ap_defs.specs.Renaming.{IsBelow};
 ghost use Rattle.ap_defs.specs.Substitution.{occurs, under, ◌#◌};
 ghost use Rattle.ap_defs.specs.Unification.{apply_rule, bind, fresh_for, next, rule, step};
 ghost use Rattle.ap_perm.specs.Closures.{closure_term};
+ghost use Rattle.ap_store.specs.Marks.{HasNoVars};
 ghost use Rattle.ap_store.specs.Triples.{IsPrefixOf, with_binding};
 ghost use Rattle.ap_store.specs.Views.{bindings_of, kinds, meaning_in, present, versions};
 ghost use Rattle.ap_theory.specs.Variables.{IsUnbound};
@@ -87,11 +88,13 @@ pub fn bind_var<'a>(
     work: &mut Work<'a>,
     x: Var,
     c: Closure<'a>,
+    is_ground: bool,
 ) -> Result<(), Memory>
     requires made { x.num < (present store.old).next }
     requires unbound { IsUnbound (bindings_of store.old) x }
     requires below { IsBelow (present store.old).next (closure_term c) }
     requires absent { occurs x (meaning_in store.old c) ≡ false }
+    requires no_vars { is_ground ≡ true → HasNoVars (meaning_in store.old c) }
     ensures stage { OnOk result (next (work_stage (bindings_of store.new) work.new)
         ≡ apply_rule (bind x (meaning_in store.old c.entry)) (map
         (equation_under (bindings_of store.old)) (equations_left work.old)) (map (problem_under
@@ -104,7 +107,7 @@ pub fn bind_var<'a>(
     ensures past { IsPrefixOf (versions store.old) (versions store.new) }
     ensures kinds { kinds store.new ≡ kinds store.old }
 {
-    let mut taken = store.bind(alloc, x, c)?;
+    let mut taken = store.bind(alloc, x, c, is_ground)?;
     if taken.is_empty() {
         return Ok(());
     }
@@ -119,11 +122,14 @@ pub fn bind_plain<'a>(
     work: &mut Work<'a>,
     x: Var,
     p: Plain<'a>,
+    is_ground: bool,
 ) -> Result<(), Memory>
     requires made { x.num < (present store.old).next }
     requires unbound { IsUnbound (bindings_of store.old) x }
     requires below { IsBelow (present store.old).next (plain_term p) }
     requires absent { occurs x (under (bindings_of store.old) (plain_term p)) ≡ false }
+    requires no_vars { is_ground ≡ true →
+        HasNoVars (under (bindings_of store.old) (plain_term p)) }
     ensures bindings { OnOk result (bindings_of store.new ≡ (with_binding x
         (under (bindings_of store.old) (plain_term p.entry)) (present store.old)).bindings) }
     ensures equations { work.new.equations.items ≡ work.old.equations.items }
@@ -133,9 +139,9 @@ pub fn bind_plain<'a>(
     ensures kinds { kinds store.new ≡ kinds store.old }
 {
     if store.has_conditions(x) {
-        return bind_var(alloc, store, work, x, p.closure(alloc));
+        return bind_var(alloc, store, work, x, p.closure(alloc), is_ground);
     }
-    store.bind_free(x, p.base, p.end, p.term)
+    store.bind_free(x, p.base, p.end, p.term, is_ground)
 }
 
 /// What a rule made of the first equation is carried out. It answers false where that is no
@@ -174,8 +180,8 @@ fn carry_out<'a>(
             put_names(work, &names, x)?;
             Ok(true)
         }
-        Move::Bind(x, c) => {
-            bind_var(alloc, store, work, x, c)?;
+        Move::Bind(x, c, is_ground) => {
+            bind_var(alloc, store, work, x, c, is_ground)?;
             Ok(true)
         }
         Move::Clash => Ok(false),

@@ -25,6 +25,7 @@ fn is_unbound(store: &Store<'_>, x: Var) -> bool
     match store.found(x) {
         Found::Nothing => true,
         Found::Plain(_) => false,
+        Found::Ground(_) => false,
         Found::Moved(_) => false,
     }
 }

@@ -9,6 +9,7 @@ use Rattle.ap_defs.specs.declared.terms.Cond.{Cond}
 use Rattle.ap_perm.specs.Closures.{closure_term}
 use Rattle.ap_perm.specs.declared.closures.Opened.{Opened}
 use Rattle.ap_perm.specs.declared.closures.Opened.TheVariants as parts
+use Rattle.ap_store.specs.Marks.{HasNoVars}
 use Rattle.ap_store.specs.Triples.{Triple}
 use Rattle.ap_theory.specs.Variables.{IsUnbound}
 use Rattle.ap_rules.specs.Runs.{stage_under}
@@ -60,7 +61,7 @@ move_under s (moves.One e) = replace (pair_under s e ∷ []) []
 move_under s (moves.Two e f) = replace (pair_under s e ∷ pair_under s f ∷ []) []
 move_under s (moves.Swapped e a c) = replace (pair_under s e ∷ []) ((a # under s (closure_term c)) ∷ [])
 move_under s (moves.Differ as' x) = replace [] (map (fresh_for x) as'.items)
-move_under s (moves.Bind x c) = bind x (under s (closure_term c))
+move_under s (moves.Bind x c g) = bind x (under s (closure_term c))
 move_under s moves.Clash = clash
 
 abbrev pub IsPairBelow : ℕ → ClosurePair → Type 0
@@ -70,13 +71,14 @@ abbrev pub ArePairsBelow : ℕ → List ClosurePair → Type 0
 ArePairsBelow n [] = Unit {0}
 ArePairsBelow n (p ∷ ps) = IsPairBelow n p × ArePairsBelow n ps
 
--- what a move brings is below n, and what it binds is unbound
+-- what a move brings is below n, what it binds is unbound, and what it marks has no variables
 abbrev pub IsMoveFit : List Binding → ℕ → Move → Type 0
 IsMoveFit s n (moves.One e) = IsPairBelow n e
 IsMoveFit s n (moves.Two e f) = IsPairBelow n e × IsPairBelow n f
 IsMoveFit s n (moves.Swapped e a c) = IsPairBelow n e
 IsMoveFit s n (moves.Differ as' x) = IsUnbound s x
-IsMoveFit s n (moves.Bind x c) = (x.num < n) × IsUnbound s x × IsBelow n (closure_term c) × (occurs x (under s (closure_term c)) ≡ false)
+IsMoveFit s n (moves.Bind x c g) =
+    (x.num < n) × IsUnbound s x × IsBelow n (closure_term c) × (occurs x (under s (closure_term c)) ≡ false) × (g ≡ true → HasNoVars (under s (closure_term c)))
 IsMoveFit s n _ = Unit {0}
 
 -- the next stage, if there is one

@@ -1,6 +1,6 @@
 //! The rules of unification, each for one equation of closures.
 
-ghost use Rattle.std.specs.Prelude.{◌≡◌, [], ◌∷◌, ◌<◌, false, IfOk, Some};
+ghost use Rattle.std.specs.Prelude.{◌≡◌, [], ◌∷◌, ◌<◌, false, true, IfOk, Some};
 ghost use Rattle.ap_defs.specs.Permutations.{inverse, swap_of};
 ghost use Rattle.ap_defs.specs.Renaming.{AreSwapsBelow, IsBelow};
 ghost use Rattle.ap_defs.specs.Substitution.{occurs, ◌#◌, ◌≐◌};
@@ -8,6 +8,7 @@ ghost use Rattle.ap_defs.specs.Terms.{abs, act_term, susp};
 ghost use Rattle.ap_defs.specs.Unification.{bind, replace, rule, unless_occurs};
 ghost use Rattle.ap_perm.specs.Closures.{closure_term, opened_term};
 ghost use Rattle.ap_store.specs.Heads.{HasForm, IsHeadVar};
+ghost use Rattle.ap_store.specs.Marks.{HasNoVars};
 ghost use Rattle.ap_store.specs.Views.{bindings_of, meaning_in, present};
 ghost use Rattle.ap_theory.specs.Variables.{IsUnbound};
 ghost use Rattle.ap_rules.specs.Work.{IsMoveFit, move_under, opened_under};
@@ -29,7 +30,7 @@ pub enum Move<'a> {
     Two(ClosurePair<'a>, ClosurePair<'a>),
     Swapped(ClosurePair<'a>, Name, Closure<'a>),
     Differ(Vec<Name>, Var),
-    Bind(Var, Closure<'a>),
+    Bind(Var, Closure<'a>, bool),
     Clash,
 }
 
@@ -78,7 +79,8 @@ fn moved_back<'a>(alloc: Global, p: &[Swap], c: Closure<'a>) -> Result<Closure<'
     c.moved_by(alloc, &back)
 }
 
-/// A variable is bound to a closure on which the inverse of the variable's permutation acts.
+/// A variable is bound to a closure on which the inverse of the variable's permutation acts, and marked where the
+/// closure is known to be ground.
 #[tactic(auto, using(crate::proofs::MoveLemmas::moved_under, crate::proofs::MoveLemmas::back_below, crate::proofs::MoveLemmas::back_absent))]
 fn bind_to<'a>(
     alloc: Global,
@@ -86,19 +88,21 @@ fn bind_to<'a>(
     p: &[Swap],
     x: Var,
     c: Closure<'a>,
+    is_ground: bool,
 ) -> Result<Move<'a>, Memory>
     requires made { x.num < (present store.now).next }
     requires unbound { IsUnbound (bindings_of store.now) x }
     requires swaps { AreSwapsBelow (present store.now).next p.now }
     requires below { IsBelow (present store.now).next (closure_term c) }
     requires absent { occurs x (meaning_in store.now c) ≡ false }
+    requires no_vars { is_ground ≡ true → HasNoVars (meaning_in store.now c) }
     ensures rule { IfOk result (λ m. move_under (bindings_of store.now) m
         ≡ bind x (act_term (inverse p.now) (meaning_in store.now c.entry))) }
     ensures fit { IfOk result (λ m. IsMoveFit (bindings_of store.now) (present store.now).next
         m) }
 {
     let moved = moved_back(alloc, p, c)?;
-    Ok(Move::Bind(x, moved))
+    Ok(Move::Bind(x, moved, is_ground))
 }
 
 /// A variable is bound to a closure, unless it occurs there.
@@ -119,10 +123,11 @@ fn bind_unless_occurs<'a>(
     ensures fit { IfOk result (λ m. IsMoveFit (bindings_of store.now) (present store.now).next
         m) }
 {
-    if store.occurs(alloc, x, &c)? {
+    let found = store.occurs(alloc, x, &c)?;
+    if found.occurs() {
         return Ok(Move::Clash);
     }
-    bind_to(alloc, store, p, x, c)
+    bind_to(alloc, store, p, x, c, found.is_ground())
 }
 
 /// Of one variable, the names on which the permutations differ are to be fresh for it.
@@ -170,7 +175,7 @@ fn bind_newer<'a>(
         m) }
 {
     let q = swaps_of(alloc, store, y, newer)?;
-    bind_to(alloc, store, &q, y, older)
+    bind_to(alloc, store, &q, y, older, false)
 }
 
 /// The rule for two closures that stand for suspensions.

@@ -60,7 +60,7 @@ module _ (x : Var) (v : NominalTerm) where
         | false ↦ λ e. rw e (moved_put p y bs (var_eq_flip x y ∙ e))
       ] refl
 
-occurs_moved : (x z : Var) (p q : List Swap) (o : Option NominalTerm) → occurs x (moved p z o) ≡ occurs x (moved q z o)
+pub occurs_moved : (x z : Var) (p q : List Swap) (o : Option NominalTerm) → occurs x (moved p z o) ≡ occurs x (moved q z o)
 occurs_moved x z p q None = refl
 occurs_moved x z p q (Some t) = occurs_act x p t ∙ sym (occurs_act x q t)
 

@@ -3,7 +3,9 @@ pub mod BindLemmas
 pub mod BelowLemmas
 pub mod AscendingLemmas
 pub mod SoundLemmas
+pub mod TableLemmas
 pub mod StoredLemmas
+pub mod MarkLemmas
 pub mod HeldLemmas
 pub mod StoreLemmas
 pub mod FollowLemmas

@@ -23,7 +23,7 @@ use Rattle.ap_store.specs.declared.changes.Entry.TheVariants as entries
 use Rattle.ap_store.specs.declared.changes.Noted.{Noted}
 use Rattle.ap_store.specs.declared.changes.Noted.TheVariants as notes
 use Rattle.ap_store.specs.declared.slots.Value.{Value}
-use Rattle.ap_store.specs.declared.slots.Value.TheVariants.{Unbound, Plain, Moved}
+use Rattle.ap_store.specs.declared.slots.Value.TheVariants.{Unbound, Plain, Ground, Moved}
 use Rattle.ap_store.specs.declared.slots.Slot.{Slot}
 use Rattle.ap_store.specs.declared.store.Store.{Store}
 
@@ -86,6 +86,7 @@ module _ (n : ℕ) where
   kept_older : (b : Value) → IsKeptBelow n b → EachVar IsOlder (kept_term b)
   kept_older Unbound h = λ y o. cc
   kept_older (Plain m t) h = λ y o. var_below n (rename_term m (term_of t.now)) h y o
+  kept_older (Ground m t) h = λ y o. var_below n (rename_term m (term_of t.now)) h y o
   kept_older (Moved c) h = h
 
   bound_older : (ss : List Slot) (i : ℕ) → AreKeptBelow n ss → EachVar IsOlder (term_or_unit (bound_in ss i))
@@ -105,6 +106,7 @@ module _ (n : ℕ) where
 pub kept_rises : (m n : ℕ) → m ≤ n → (b : Value) → IsKeptBelow m b → IsKeptBelow n b
 kept_rises m n l Unbound h = tt
 kept_rises m n l (Plain b t) h = below_more n m l (rename_term b (term_of t.now)) h
+kept_rises m n l (Ground b t) h = below_more n m l (rename_term b (term_of t.now)) h
 kept_rises m n l (Moved c) h = λ y o. let k : y.num < m = h y o in omega (arith, k, l)
 
 pub all_kept_rises : (m n : ℕ) → m ≤ n → (ss : List Slot) → AreKeptBelow m ss → AreKeptBelow n ss
@@ -115,6 +117,7 @@ all_kept_rises m n l (s ∷ ss) h = (kept_rises m n l s.value h.0, all_kept_rise
 some_kept : (n : ℕ) (b : Value) → ((t : NominalTerm) → value_term b ≡ Some t → IsBelow n t) → IsKeptBelow n b
 some_kept n Unbound f = tt
 some_kept n (Plain b t) f = f (rename_term b (term_of t.now)) refl
+some_kept n (Ground b t) f = f (rename_term b (term_of t.now)) refl
 some_kept n (Moved c) f = λ y o. var_below n (closure_term c.value) (f (closure_term c.value) refl) y o
 
 pub all_kept : (n : ℕ) (ss : List Slot) → ((i : ℕ) (t : NominalTerm) → bound_in ss i ≡ Some t → IsBelow n t) → AreKeptBelow n ss

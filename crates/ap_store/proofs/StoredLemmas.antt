@@ -29,65 +29,8 @@ use Rattle.ap_store.proofs.HeldLemmas.{kept, now}
 use Rattle.ap_store.proofs.ReachLemmas.{all_kept, all_kept_rises, kept_take}
 use Rattle.ap_store.proofs.SoundLemmas.{IsSound, sound}
 use Rattle.ap_store.proofs.StoreLemmas.{unbound_beyond}
+use Rattle.ap_store.proofs.TableLemmas.{bound_in_beyond, bound_in_take}
 use Rattle.ap_store.proofs.TrailLemmas.{changes_less, changes_more, linked_less, linked_more, present_more, raw_more, take_whole}
-
--- What stands in tables.
-pub bound_in_get : (ss : List Slot) (i : ℕ) (d : Slot) → i < length ss → bound_in ss i ≡ value_term (get_or ss i d).value
-bound_in_get [] i d l = absurd (omega arith)
-bound_in_get (s ∷ ss) zero d l = refl
-bound_in_get (s ∷ ss) (suc i) d l = bound_in_get ss i d (omega arith)
-
-pub bound_in_beyond : (ss : List Slot) (i : ℕ) → length ss ≤ i → bound_in ss i ≡ None
-bound_in_beyond [] i l = refl
-bound_in_beyond (s ∷ ss) zero l = absurd (omega arith)
-bound_in_beyond (s ∷ ss) (suc i) l = bound_in_beyond ss i (omega arith)
-
-after_zero : (j : ℕ) → (suc j == 0) ≡ false
-after_zero j = grind (arith, nat_tests)
-
-before_suc : (i : ℕ) → (0 == suc i) ≡ false
-before_suc i = grind (arith, nat_tests)
-
-both_suc : (i j : ℕ) → (suc j == suc i) ≡ (j == i)
-both_suc i j = grind (arith, nat_tests)
-
-pub bound_in_set : (ss : List Slot) (i j : ℕ) (s : Slot) → i < length ss → bound_in (slice_set ss i s) j ≡ (if j == i then value_term s.value else bound_in ss j)
-bound_in_set [] i j s l = absurd (omega arith)
-bound_in_set (t ∷ ss) zero zero s l = refl
-bound_in_set (t ∷ ss) zero (suc j) s l = sym (ap (λ (b : Bool). if b then value_term s.value else bound_in ss j) (after_zero j))
-bound_in_set (t ∷ ss) (suc i) zero s l = sym (ap (λ (b : Bool). if b then value_term s.value else value_term t.value) (before_suc i))
-bound_in_set (t ∷ ss) (suc i) (suc j) s l = bound_in_set ss i j s (omega arith) ∙ ap (λ (b : Bool). if b then value_term s.value else bound_in ss j) (sym (both_suc i j))
-
-bound_in_append : (ss zs : List Slot) (i : ℕ) → ((j : ℕ) → bound_in zs j ≡ None) → bound_in (ss ++ zs) i ≡ bound_in ss i
-bound_in_append [] zs i h = h i
-bound_in_append (s ∷ ss) zs zero h = refl
-bound_in_append (s ∷ ss) zs (suc i) h = bound_in_append ss zs i h
-
-bound_in_take : (ss : List Slot) (n i : ℕ) → i < n → bound_in (take n ss) i ≡ bound_in ss i
-bound_in_take [] zero i l = refl
-bound_in_take [] (suc n) i l = refl
-bound_in_take (s ∷ ss) zero i l = absurd (omega arith)
-bound_in_take (s ∷ ss) (suc n) zero l = refl
-bound_in_take (s ∷ ss) (suc n) (suc i) l = bound_in_take ss n i (omega arith)
-
-pub kinds_set : (ss : List Slot) (i : ℕ) (s d : Slot) → i < length ss → slot_kind s ≡ slot_kind (get_or ss i d) → map slot_kind (slice_set ss i s) ≡ map slot_kind ss
-kinds_set [] i s d l e = absurd (omega arith)
-kinds_set (t ∷ ss) zero s d l e = ap (λ (k : NominalKind). k ∷ map slot_kind ss) e
-kinds_set (t ∷ ss) (suc i) s d l e = ap (λ (ks : List NominalKind). slot_kind t ∷ ks) (kinds_set ss i s d (omega arith) e)
-
-pub length_set : (ss : List Slot) (i : ℕ) (s : Slot) → length (slice_set ss i s) ≡ length ss
-length_set [] zero s = refl
-length_set [] (suc i) s = refl
-length_set (t ∷ ss) zero s = refl
-length_set (t ∷ ss) (suc i) s = ap suc (length_set ss i s)
-
--- one more slot
-pub bound_in_more : (s : Slot) (ss us : List Slot) (i : ℕ) → us ≡ ss ++ s ∷ [] → value_term s.value ≡ None → bound_in us i ≡ bound_in ss i
-bound_in_more s ss us i e z = ap (λ (vs : List Slot). bound_in vs i) e ∙ bound_in_append ss (s ∷ []) i none
-  where
-    none : (j : ℕ) → bound_in (s ∷ []) j ≡ None
-    none zero = z
-    none (suc j) = refl
 
 -- The changes of a trail.
 -- they stand in the table by the numbers that are bound alone
@@ -199,7 +142,7 @@ none_is None h = refl
 none_is (Some t) h = absurd (true≢false h)
 
 -- an unbound variable is not looked up
-unbound_raw : (cs : List Change) (x : Var) → AreChanges cs empty → IsUnbound (now cs).bindings x → raw_after cs nothing_bound x ≡ None
+pub unbound_raw : (cs : List Change) (x : Var) → AreChanges cs empty → IsUnbound (now cs).bindings x → raw_after cs nothing_bound x ≡ None
 unbound_raw cs x h u = none_is (raw_after cs nothing_bound x) (sym ((sound cs h).same x) ∙ u)
 
 -- where one number changes that is unbound, the changes so far stay

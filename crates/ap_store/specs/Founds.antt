@@ -1,12 +1,17 @@
 -- What a look at a variable finds.
-use Rattle.std.specs.Prelude.{◌≡◌, Bool, List, Option, Some, None}
+use Rattle.std.specs.Prelude.{◌≡◌, Bool, true, false, List, [], Option, Some, None}
 use Rattle.ap_defs.specs.Renaming.{rename_term}
 use Rattle.ap_defs.specs.Substitution.{occurs, under}
-use Rattle.ap_defs.specs.Terms.{NominalTerm, act_term, term_of}
+use Rattle.ap_defs.specs.Terms.{NominalTerm, act_term, susp, term_of}
 use Rattle.ap_defs.specs.declared.terms.Swap.{Swap}
 use Rattle.ap_defs.specs.declared.terms.Var.{Var}
 use Rattle.ap_store.specs.declared.bare.Bare.{Bare}
-use Rattle.ap_store.specs.Views.{bindings_of}
+use Rattle.ap_store.specs.Marks.{HasNoVars}
+use Rattle.ap_store.specs.Views.{bindings_of, raw_bound}
+use Rattle.ap_store.specs.declared.occurrences.Occurrence.{Occurrence}
+use Rattle.ap_store.specs.declared.occurrences.Occurrence.TheVariants as occurrences
+use Rattle.ap_store.specs.declared.occurrences.Sight.{Sight}
+use Rattle.ap_store.specs.declared.occurrences.Sight.TheVariants as sights
 use Rattle.ap_store.specs.declared.slots.Found.{Found}
 use Rattle.ap_store.specs.declared.slots.Found.TheVariants as founds
 use Rattle.ap_store.specs.declared.store.Store.{Store}
@@ -23,9 +28,29 @@ occurs_in s x b = occurs x (under (bindings_of s) (bare_term b))
 abbrev pub IsWhatIsFound : Option NominalTerm → Found → Type 0
 IsWhatIsFound o founds.Nothing = o ≡ None
 IsWhatIsFound o (founds.Plain b) = o ≡ Some (bare_term b)
+IsWhatIsFound o (founds.Ground b) = o ≡ Some (bare_term b)
 IsWhatIsFound o (founds.Moved b) = (p : List Swap) × (o ≡ Some (act_term p (bare_term b)))
 
 -- likewise, whatever swappings wait
 abbrev pub IsBareOf : Option NominalTerm → Option Bare → Type 0
 IsBareOf o None = o ≡ None
 IsBareOf o (Some b) = (p : List Swap) × (o ≡ Some (act_term p (bare_term b)))
+
+-- what is found is marked
+abbrev pub is_ground_found : Found → Bool
+is_ground_found founds.Nothing = false
+is_ground_found (founds.Plain b) = false
+is_ground_found (founds.Ground b) = true
+is_ground_found (founds.Moved b) = false
+
+-- the variable is unbound, or stands for a term without variables, or but for swappings for the term
+abbrev pub IsSight : Store → Var → Sight → Type 0
+IsSight s x sights.Unbound = raw_bound s x ≡ None
+IsSight s x sights.Ground = HasNoVars (under (bindings_of s) (susp [] x))
+IsSight s x (sights.Below b) = (p : List Swap) × (raw_bound s x ≡ Some (act_term p (bare_term b)))
+
+-- whether the variable occurs
+abbrev pub does_occur : Occurrence → Bool
+does_occur occurrences.Occurs = true
+does_occur occurrences.Apart = false
+does_occur occurrences.Ground = false

@@ -5,5 +5,6 @@ pub mod Heads
 pub mod WellFormed
 pub mod Trails
 pub mod Slots
+pub mod Marks
 pub mod Founds
 pub mod Views

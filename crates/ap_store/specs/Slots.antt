@@ -19,7 +19,7 @@ use Rattle.ap_store.specs.declared.changes.Entry.TheVariants as entries
 use Rattle.ap_store.specs.declared.changes.Noted.{Noted}
 use Rattle.ap_store.specs.declared.changes.Noted.TheVariants as notes
 use Rattle.ap_store.specs.declared.slots.Value.{Value}
-use Rattle.ap_store.specs.declared.slots.Value.TheVariants.{Unbound, Plain, Moved}
+use Rattle.ap_store.specs.declared.slots.Value.TheVariants.{Unbound, Plain, Ground, Moved}
 use Rattle.ap_store.specs.declared.slots.Slot.{Slot}
 
 abbrev pub slot_kind : Slot → NominalKind
@@ -29,6 +29,7 @@ slot_kind s = kind_of s.local.now.kind
 abbrev pub value_term : Value → Option NominalTerm
 value_term Unbound = None
 value_term (Plain b t) = Some (rename_term b (term_of t.now))
+value_term (Ground b t) = Some (rename_term b (term_of t.now))
 value_term (Moved c) = Some (closure_term c.value)
 
 abbrev pub bound_in : List Slot → ℕ → Option NominalTerm
@@ -48,6 +49,7 @@ kept_term b = term_or_unit (value_term b)
 abbrev pub IsKeptBelow : ℕ → Value → Type 0
 IsKeptBelow n Unbound = Unit {0}
 IsKeptBelow n (Plain b t) = IsBelow n (rename_term b (term_of t.now))
+IsKeptBelow n (Ground b t) = IsBelow n (rename_term b (term_of t.now))
 IsKeptBelow n (Moved c) = EachVar (λ y. y.num < n) (closure_term c.value)
 
 abbrev pub AreKeptBelow : ℕ → List Slot → Type 0
@@ -127,6 +129,7 @@ links_prop (c ∷ cs) k = let h : IsProp (IsTakenHeld c k) = link_prop c k in le
 kept_prop : (n : ℕ) (b : Value) → IsProp (IsKeptBelow n b)
 kept_prop n Unbound = Unit-prop
 kept_prop n (Plain b t) = below_prop n (rename_term b (term_of t.now))
+kept_prop n (Ground b t) = below_prop n (rename_term b (term_of t.now))
 kept_prop n (Moved c) = hlevel props
 
 all_kept_prop : (n : ℕ) (ss : List Slot) → IsProp (AreKeptBelow n ss)

@@ -8,7 +8,7 @@ mod following;
 pub mod heads;
 mod held;
 mod lookups;
-mod occurrences;
+pub mod occurrences;
 pub mod slots;
 pub mod store;
 mod tables;

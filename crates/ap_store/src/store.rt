@@ -2,18 +2,20 @@
 
 ghost use Rattle.ap_perm.specs.Lookups.{IsRanked};
 ghost use Rattle.ap_store.specs.Changes.{empty};
+ghost use Rattle.ap_store.specs.Marks.{AreGroundMarks, ground_in, marks_prop};
 ghost use Rattle.ap_store.specs.Slots.{AreHeld, IsStored, changes_in, held_prop, stored_prop};
 ghost use Rattle.ap_store.specs.Trails.{no_rank, nothing_bound, rank_after, raw_after};
 
-use crate::bare::Bare;
+mod reading;
+
 use crate::changes::{Entry, Noted};
-use crate::held::{all_of, held_of, hold, let_go, put_back, take_out};
-use crate::slots::{Found, Slot, Value, value_of};
-use crate::tables::{add_slots, bound_at, found_at, put_value};
-use ap_defs::goals::{Kind, Local};
+use crate::held::{held_of, hold, let_go, put_back, take_out};
+use crate::slots::{Slot, Value, plain_value, value_of};
+use crate::tables::{add_slots, put_value};
+use ap_defs::goals::Local;
 use ap_defs::memory::Memory;
 use ap_defs::terms::{Cond, Term, Var};
-use ap_perm::closures::{Closure, Lent};
+use ap_perm::closures::Closure;
 use ap_perm::sets::make_set;
 use std::alloc::Global;
 
@@ -28,7 +30,8 @@ pub struct Mark {
 ///
 /// Contracts see it as its present triple of bindings, conditions and next number, the list of the
 /// earlier triples, and the list of kinds. There each binding is carried out in the others; what is
-/// kept of it is the closure alone, in the table. All that is bound is below `reach`.
+/// kept of it is the closure alone, in the table. All that is bound is below `reach`. What is marked stood for a
+/// term without variables when it was bound, and so does since.
 #[derive(Drop)]
 pub struct Store<'a> {
     table: Vec<Slot<'a>>,
@@ -38,24 +41,27 @@ pub struct Store<'a> {
     reach: u64,
     pub ghost stored: { IsStored table.items trail.items noted.items reach } by { stored_prop table.items trail.items noted.items reach },
     pub ghost holds: { AreHeld held.items (changes_in table.items trail.items noted.items) } by { held_prop held.items (changes_in table.items trail.items noted.items) },
+    pub ghost marked: { AreGroundMarks (ground_in table.items)
+        (changes_in table.items trail.items noted.items) empty } by { marks_prop (ground_in table.items)
+            (changes_in table.items trail.items noted.items) empty },
     pub ghost ranked: { IsRanked (raw_after (changes_in table.items trail.items noted.items) nothing_bound)
         (rank_after (changes_in table.items trail.items noted.items) empty no_rank) },
 }
 
 impl<'a> Store<'a> {
-    ghost use Rattle.std.specs.Prelude.{◌≡◌, ◌+◌, ◌≤◌, ◌<◌, ◌++◌, ◌∷◌, [], false, true, Some, None, IfOk, MatchOption, OnOk, OnErr, filter, length, slice_get, take, vec_len, vec_capacity};
+    ghost use Rattle.std.specs.Prelude.{◌≡◌, ◌+◌, ◌≤◌, ◌<◌, ◌++◌, ◌∷◌, [], false, true, Some, IfOk, OnOk, OnErr, filter, length, take, vec_len, vec_capacity};
     ghost use Rattle.ap_defs.specs.Renaming.{IsBelow, rename_term};
     ghost use Rattle.ap_defs.specs.Resolution.{kinds_of};
     ghost use Rattle.ap_defs.specs.Substitution.{occurs, under};
     ghost use Rattle.ap_defs.specs.Terms.{term_of};
-    ghost use Rattle.ap_defs.specs.Types.{kind_of, locals_of};
-    ghost use Rattle.ap_perm.specs.Closures.{closure_term, lent_term};
+    ghost use Rattle.ap_defs.specs.Types.{locals_of};
+    ghost use Rattle.ap_perm.specs.Closures.{closure_term};
     ghost use Rattle.ap_theory.specs.Variables.{IsUnbound};
     ghost use Rattle.ap_store.specs.Changes.{has_on, replace_conditions, with_bound};
-    ghost use Rattle.ap_store.specs.Founds.{IsBareOf, IsWhatIsFound};
+    ghost use Rattle.ap_store.specs.Marks.{HasNoVars, is_ground_value};
     ghost use Rattle.ap_store.specs.Slots.{IsKeptBelow, value_term, kept_term};
     ghost use Rattle.ap_store.specs.Triples.{AreOnUnbound, IsPrefixOf, is_apart, is_on, with_binding, with_conditions, with_next};
-    ghost use Rattle.ap_store.specs.Views.{IsUnchanged, bindings_of, kinds, meaning_in, past, present, raw_bound, versions};
+    ghost use Rattle.ap_store.specs.Views.{IsUnchanged, bindings_of, kinds, meaning_in, past, present, versions};
 
     /// The empty store. It takes no memory.
     pub fn new(alloc: Global) -> Store<'a>
@@ -95,13 +101,21 @@ impl<'a> Store<'a> {
         Ok(first as u64)
     }
 
-    /// Binds an unbound variable to a closure in which it does not occur, and answers the conditions
-    /// on the variable, which are taken out. After want of memory the store is as before.
-    pub fn bind(&mut self, alloc: Global, x: Var, c: Closure<'a>) -> Result<Vec<Cond>, Memory>
+    /// Binds an unbound variable to a closure in which it does not occur, marked where that is known to be
+    /// ground, and answers the conditions on the variable, which are taken out. After want of memory the
+    /// store is as before.
+    pub fn bind(
+        &mut self,
+        alloc: Global,
+        x: Var,
+        c: Closure<'a>,
+        is_ground: bool,
+    ) -> Result<Vec<Cond>, Memory>
         requires made { x.num < (present self.old).next }
         requires unbound { IsUnbound (bindings_of self.old) x }
         requires term { IsBelow (present self.old).next (closure_term c) }
         requires absent { occurs x (meaning_in self.old c) ≡ false }
+        requires no_vars { is_ground ≡ true → HasNoVars (meaning_in self.old c) }
         ensures taken { IfOk result (λ conds. conds.items
             ≡ filter (is_on x) (present self.old).conditions) }
         ensures present { OnOk result (present self.new
@@ -112,16 +126,24 @@ impl<'a> Store<'a> {
         ensures unchanged { OnErr result (IsUnchanged self.old self.new) }
     {
         let end = c.end;
-        let value = value_of(alloc, c)?;
+        let value = value_of(alloc, c, is_ground)?;
         let taken = self.take_conditions(alloc, x)?;
         self.note_binding(x, value, end);
         Ok(taken)
     }
 
     /// Binds an unbound variable, on which there are no conditions, to a term on which no swappings wait,
-    /// whose identifiers are numbered from `base` on, below `end`, and in which it does not occur. After
-    /// want of memory the store is as before; a `base` of `2 ^ 32` and more is such a want.
-    pub fn bind_free(&mut self, x: Var, base: u64, end: u64, term: &'a Term) -> Result<(), Memory>
+    /// whose identifiers are numbered from `base` on, below `end`, and in which it does not occur, marked where
+    /// that is known to be ground. After want of memory the store is as before; a `base` of `2 ^ 32` and more
+    /// is such a want.
+    pub fn bind_free(
+        &mut self,
+        x: Var,
+        base: u64,
+        end: u64,
+        term: &'a Term,
+        is_ground: bool,
+    ) -> Result<(), Memory>
         requires made { x.num < (present self.old).next }
         requires unbound { IsUnbound (bindings_of self.old) x }
         requires apart { has_on x (present self.old).conditions ≡ false }
@@ -129,6 +151,8 @@ impl<'a> Store<'a> {
         requires term { IsBelow (present self.old).next (rename_term base (term_of term.now)) }
         requires absent { occurs x (under (bindings_of self.old)
             (rename_term base (term_of term.now))) ≡ false }
+        requires no_vars { is_ground ≡ true →
+            HasNoVars (under (bindings_of self.old) (rename_term base (term_of term.now))) }
         ensures present { OnOk result (present self.new
             ≡ with_binding x (under (bindings_of self.old) (rename_term base (term_of term.now)))
             (present self.old)) }
@@ -140,7 +164,7 @@ impl<'a> Store<'a> {
             return Err(Memory);
         }
         self.make_room()?;
-        self.note_binding(x, Value::Plain(base as u32, term), end);
+        self.note_binding(x, plain_value(base as u32, term, is_ground), end);
         Ok(())
     }
 
@@ -182,73 +206,6 @@ impl<'a> Store<'a> {
         'undoing: while self.trail.len() > m.place {
             self.undo_last();
         }
-    }
-
-    /// The closure to which a variable is bound, or none where it is unbound. It takes no memory.
-    pub fn binding(&self, x: Var) -> Option<Lent<'_, 'a>>
-        ensures { MatchOption result (raw_bound self.now x ≡ None) (λ c. raw_bound self.now x
-            ≡ Some (lent_term c)) }
-    {
-        bound_at(&self.table, x.num, self.reach)
-    }
-
-    /// What a look at a variable finds. It takes no memory.
-    pub fn found(&self, x: Var) -> Found<'a>
-        ensures { IsWhatIsFound (raw_bound self.now x) result }
-    {
-        found_at(&self.table, x.num, self.reach)
-    }
-
-    /// The term of the closure to which a variable is bound, without the swappings that wait on it, or none
-    /// where it is unbound. It takes no memory.
-    pub(crate) fn bare(&self, x: Var) -> Option<Bare<'a>>
-        ensures { IsBareOf (raw_bound self.now x) result }
-    {
-        match self.found(x) {
-            Found::Nothing => None,
-            Found::Plain(b) => Some(b),
-            Found::Moved(b) => Some(b),
-        }
-    }
-
-    /// Whether there are conditions on a variable. It takes no memory.
-    pub fn has_conditions(&self, x: Var) -> bool
-        ensures { result ≡ has_on x (present self.now).conditions }
-    {
-        !held_of(&self.held, x.num as usize).is_empty()
-    }
-
-    /// Whether the variable is so new that neither the closure nor any bound one can have it.
-    pub(crate) fn is_new(&self, x: Var, c: &Closure<'_>) -> bool
-        ensures { result ≡ true →
-            occurs x (meaning_in self.now c.now) ≡ false }
-    {
-        self.reach <= x.num && c.end <= x.num
-    }
-
-    /// The conditions, each once, ascending by variable, then by the name's number, and then by its
-    /// sort.
-    pub fn conds(&self, alloc: Global) -> Result<Vec<Cond>, Memory>
-        ensures { IfOk result (λ conds. conds.items ≡ (present self.now).conditions) }
-    {
-        let mut conds = all_of(alloc, &self.held)?;
-        make_set(&mut conds);
-        Ok(conds)
-    }
-
-    /// The next number. It takes no memory.
-    pub fn next(&self) -> u64
-        ensures { result ≡ (present self.now).next }
-    {
-        self.table.len() as u64
-    }
-
-    /// The kind of a number that was given. It takes no memory.
-    pub fn kind(&self, num: u64) -> &'a Kind
-        requires { num < (present self.now).next }
-        ensures { slice_get (kinds self.now) num ≡ Some (kind_of result.now) }
-    {
-        &self.table[num as usize].local.kind
     }
 
     /// Makes room for one more change.
@@ -327,6 +284,8 @@ impl<'a> Store<'a> {
         requires term { IsBelow (present self.old).next (kept_term value) }
         requires within { IsKeptBelow end value }
         requires absent { occurs x (under (bindings_of self.old) (kept_term value)) ≡ false }
+        requires mark { is_ground_value value ≡ true →
+            HasNoVars (under (bindings_of self.old) (kept_term value)) }
         requires apart { has_on x (present self.old).conditions ≡ false }
         ensures present { present self.new
             ≡ with_bound x (under (bindings_of self.old) (kept_term value.entry)) (present self.old) }

@@ -4,7 +4,8 @@ ghost use Rattle.std.specs.Prelude.{◌≡◌, ℕ, ◌+◌, ◌≤◌, ◌<◌,
 ghost use Rattle.ap_defs.specs.Resolution.{kinds_of};
 ghost use Rattle.ap_defs.specs.Types.{locals_of};
 ghost use Rattle.ap_perm.specs.Closures.{lent_term};
-ghost use Rattle.ap_store.specs.Founds.{IsWhatIsFound};
+ghost use Rattle.ap_store.specs.Founds.{IsWhatIsFound, is_ground_found};
+ghost use Rattle.ap_store.specs.Marks.{is_ground_value, ground_in};
 ghost use Rattle.ap_store.specs.Slots.{AreKeptBelow, IsKeptBelow, value_term, bound_in, slot_kind};
 
 use crate::slots::{Found, Slot, Value, found_value, lent_value};
@@ -17,6 +18,7 @@ pub fn add_slots<'a>(table: &mut Vec<Slot<'a>>, locals: &'a [Local])
     ensures kinds { map slot_kind table.new.items
         ≡ map slot_kind table.old.items ++ kinds_of (locals_of locals.now) }
     ensures bound { (i : ℕ) → bound_in table.new.items i ≡ bound_in table.old.items i }
+    ensures marks { (i : ℕ) → ground_in table.new.items i ≡ ground_in table.old.items i }
     ensures length { length table.new.items ≡ length table.old.items + length locals.now }
     ensures below { (n : ℕ) → AreKeptBelow n table.old.items → AreKeptBelow n table.new.items }
 {
@@ -34,6 +36,8 @@ pub fn put_value<'a>(table: &mut Vec<Slot<'a>>, place: usize, value: Value<'a>)
     ensures kinds { map slot_kind table.new.items ≡ map slot_kind table.old.items }
     ensures bound { (i : ℕ) → bound_in table.new.items i
         ≡ (if i == place then value_term value.entry else bound_in table.old.items i) }
+    ensures marks { (i : ℕ) → ground_in table.new.items i
+        ≡ (if i == place then is_ground_value value.entry else ground_in table.old.items i) }
     ensures length { length table.new.items ≡ length table.old.items }
     ensures below { (n : ℕ) → IsKeptBelow n value.entry → AreKeptBelow n table.old.items →
         AreKeptBelow n table.new.items }
@@ -57,7 +61,8 @@ pub fn bound_at<'s, 'a>(table: &'s [Slot<'a>], num: u64, end: u64) -> Option<Len
 /// What a look at a number finds, where what it is bound to is below `end`. It takes no memory.
 pub fn found_at<'a>(table: &[Slot<'a>], num: u64, end: u64) -> Found<'a>
     requires { AreKeptBelow end table.now }
-    ensures { IsWhatIsFound (bound_in table.now num) result }
+    ensures found { IsWhatIsFound (bound_in table.now num) result }
+    ensures mark { is_ground_found result ≡ ground_in table.now num }
 {
     if num < table.len() as u64 {
         found_value(&table[num as usize].value, end)

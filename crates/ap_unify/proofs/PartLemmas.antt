@@ -1,5 +1,5 @@
 -- The rules for parts of terms on which no swappings wait.
-use Rattle.std.proofs.Common.{◌≡◌, ◌<◌, ◌≤◌, ℕ, true, false, List, [], ◌∷◌, ◌++◌, length, map, refl, reverse, sym, subst, ap, ap₂, ◌∙◌, arith}
+use Rattle.std.proofs.Common.{◌≡◌, ◌<◌, ◌≤◌, ℕ, Bool, true, false, List, [], ◌∷◌, ◌++◌, length, map, refl, reverse, sym, subst, ap, ap₂, ◌∙◌, arith}
 use Rattle.std.proofs.lemmas.Bool.Decides.{nat_tests}
 use Rattle.std.specs.Prelude.{Some, nat_lt, if◌then◌else◌}
 use Rattle.ap_defs.specs.Freshness.{var_eq}
@@ -17,6 +17,7 @@ use Rattle.ap_perm.specs.Lookups.{depth_of}
 use Rattle.ap_perm.specs.declared.closures.Closure.{Closure}
 use Rattle.ap_store.proofs.StoreLemmas.{store_ranked, store_sound}
 use Rattle.ap_store.specs.Heads.{HasForm, IsHeadUnbound}
+use Rattle.ap_store.specs.Marks.{HasNoVars}
 use Rattle.ap_store.specs.Views.{bindings_of, present, rank, raw_bound}
 use Rattle.ap_store.specs.declared.store.Store.{Store}
 use Rattle.ap_theory.proofs.TermLemmas.{act_term_none}
@@ -55,8 +56,8 @@ found_further s x v t u e f b =
 pub head_free : (s : List Binding) (t : NominalTerm) (h : Head) (x : Var) → IsHead s t h → h ≡ heads.Free x → (t ≡ susp [] x) × IsUnbound s x
 head_free s t h x k e = subst (IsHead s t) e k
 
-pub head_form : (s : List Binding) (t : NominalTerm) (h : Head) → IsHead s t h → h ≡ heads.Form → HasForm t
-head_form s t h k e = subst (IsHead s t) e k
+pub head_form : (s : List Binding) (t : NominalTerm) (h : Head) (g : Bool) → IsHead s t h → h ≡ heads.Form g → HasForm t × (g ≡ true → HasNoVars (under s t))
+head_form s t h g k e = subst (IsHead s t) e k
 
 module _ (s : List Binding) where
   -- an unbound variable stays

@@ -1,5 +1,5 @@
 -- Parts of terms on which no swappings wait, and how a run goes on with them.
-use Rattle.std.specs.Prelude.{◌≡◌, ◌<◌, ◌⊎◌, ℕ, zero, suc, List, [], ◌∷◌, ◌++◌, Option, Some, None, map}
+use Rattle.std.specs.Prelude.{◌≡◌, ◌<◌, ◌⊎◌, ℕ, zero, suc, true, List, [], ◌∷◌, ◌++◌, Option, Some, None, map}
 use Rattle.ap_defs.specs.Renaming.{IsBelow}
 use Rattle.ap_defs.specs.Substitution.{Binding, Equation, Problem, under, ◌≐◌}
 use Rattle.ap_defs.specs.Terms.{NominalTerm, susp}
@@ -10,6 +10,7 @@ use Rattle.ap_store.specs.Triples.{Triple}
 use Rattle.ap_theory.specs.Variables.{IsUnbound}
 use Rattle.ap_rules.specs.Runs.{equation_under, problem_under, stage_under}
 use Rattle.ap_store.specs.Heads.{HasForm}
+use Rattle.ap_store.specs.Marks.{HasNoVars}
 use Rattle.ap_rules.specs.Work.{equations_left, problems_met, progress_if, work_stage}
 use Rattle.ap_equations.specs.Plain.{plain_term}
 use Rattle.ap_unify.specs.declared.heads.Head.{Head}
@@ -36,14 +37,17 @@ HasVariable (susp p x) = Unit {0}
 HasVariable _ = ⊥
 
 abbrev pub IsHead : List Binding → NominalTerm → Head → Type 0
-IsHead s t heads.Form = HasForm t
+IsHead s t (heads.Form g) = HasForm t × (g ≡ true → HasNoVars (under s t))
 IsHead s t (heads.Free x) = (t ≡ susp [] x) × IsUnbound s x
 IsHead s t heads.Other = HasVariable t
 
 -- what one look finds at the head of a term
 abbrev pub IsLook : Triple → (Var → ℕ) → NominalTerm → Look → Type 0
-IsLook a rank t (looks.Ends h) = IsHead a.bindings t h
+IsLook a rank t looks.Form = HasForm t
+IsLook a rank t (looks.Free x) = (t ≡ susp [] x) × IsUnbound a.bindings x
+IsLook a rank t looks.Other = HasVariable t
 IsLook a rank t (looks.Further p) = IsFurther a rank t (plain_term p)
+IsLook a rank t (looks.Ground p) = IsFurther a rank t (plain_term p) × HasNoVars (under a.bindings (plain_term p))
 
 abbrev pub parts_equation : PlainPair → Equation
 parts_equation p = plain_term p.left ≐ plain_term p.right

@@ -12,20 +12,24 @@ use ap_equations::plain::Plain;
 use ap_store::slots::Found;
 use ap_store::store::Store;
 
-/// No suspension, an unbound variable on which no swappings wait, or another suspension.
+/// No suspension, which may be known to be ground, an unbound variable on which no swappings wait, or another
+/// suspension.
 #[derive(Clone, Copy)]
 pub enum Head {
-    Form,
+    Form(bool),
     Free(Var),
     Other,
 }
 
-/// What one look at the head of a part finds: what stands there, or what is bound to the variable there,
-/// where no swappings wait on either.
+/// What one look at the head of a part finds: what stands there, or what is bound to the variable there, which may
+/// be known to be ground, where no swappings wait on either.
 #[derive(Clone, Copy)]
 pub enum Look<'a> {
-    Ends(Head),
+    Form,
+    Free(Var),
+    Other,
     Further(Plain<'a>),
+    Ground(Plain<'a>),
 }
 
 /// A part, and what stands at its head.
@@ -40,22 +44,27 @@ fn look_at<'a>(store: &Store<'a>, p: Plain<'a>) -> Look<'a>
     ensures { IsLook (present store.now) (rank store.now) (plain_term p.entry) result }
 {
     match p.term {
-        Term::Unit => Look::Ends(Head::Form),
-        Term::Name(_) => Look::Ends(Head::Form),
-        Term::Pair(_, _) => Look::Ends(Head::Form),
-        Term::App(_, _) => Look::Ends(Head::Form),
-        Term::Abs(_, _, _) => Look::Ends(Head::Form),
+        Term::Unit => Look::Form,
+        Term::Name(_) => Look::Form,
+        Term::Pair(_, _) => Look::Form,
+        Term::App(_, _) => Look::Form,
+        Term::Abs(_, _, _) => Look::Form,
         Term::Susp(q, x) => {
             if !q.items().is_empty() {
-                return Look::Ends(Head::Other);
+                return Look::Other;
             }
             let x = Var {
                 num: p.base + x.num,
             };
             match store.found(x) {
-                Found::Nothing => Look::Ends(Head::Free(x)),
-                Found::Moved(_) => Look::Ends(Head::Other),
+                Found::Nothing => Look::Free(x),
+                Found::Moved(_) => Look::Other,
                 Found::Plain(b) => Look::Further(Plain {
+                    base: b.base,
+                    end: b.end,
+                    term: b.term,
+                }),
+                Found::Ground(b) => Look::Ground(Plain {
                     base: b.base,
                     end: b.end,
                     term: b.term,
@@ -74,10 +83,32 @@ pub fn headed<'a>(store: &Store<'a>, mut p: Plain<'a>) -> PartWithHead<'a>
         IsBelow (present store.now).next (plain_term result.part) }
     ensures head { IsHead (bindings_of store.now) (plain_term result.part) result.head }
 {
+    let mut is_ground = false;
     'following: loop {
         match look_at(store, p) {
-            Look::Ends(head) => return PartWithHead { part: p, head },
+            Look::Form => {
+                return PartWithHead {
+                    part: p,
+                    head: Head::Form(is_ground),
+                };
+            }
+            Look::Free(x) => {
+                return PartWithHead {
+                    part: p,
+                    head: Head::Free(x),
+                };
+            }
+            Look::Other => {
+                return PartWithHead {
+                    part: p,
+                    head: Head::Other,
+                };
+            }
             Look::Further(further) => p = further,
+            Look::Ground(further) => {
+                p = further;
+                is_ground = true;
+            }
         }
     }
 }

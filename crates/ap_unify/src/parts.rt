@@ -1,11 +1,12 @@
 //! The rules for two parts of terms on which no swappings wait.
 
-ghost use Rattle.std.specs.Prelude.{◌≡◌, ◌<◌, ◌+◌, ℕ, List, [], false, IfOk, OnOk};
+ghost use Rattle.std.specs.Prelude.{◌≡◌, ◌<◌, ◌+◌, ℕ, List, [], false, true, IfOk, OnOk};
 ghost use Rattle.ap_defs.specs.Permutations.{name_eq};
 ghost use Rattle.ap_defs.specs.Renaming.{IsBelow, rename_name, rename_term};
 ghost use Rattle.ap_defs.specs.Substitution.{Binding, occurs, under};
 ghost use Rattle.ap_defs.specs.Terms.{susp, term_of};
 ghost use Rattle.ap_defs.specs.Unification.{bind, unless_occurs};
+ghost use Rattle.ap_store.specs.Marks.{HasNoVars};
 ghost use Rattle.ap_store.specs.Triples.{IsPrefixOf};
 ghost use Rattle.ap_store.specs.Views.{bindings_of, kinds, present, versions};
 ghost use Rattle.ap_theory.specs.Variables.{IsUnbound};
@@ -51,11 +52,14 @@ fn bind_part<'a>(
     work: &mut Work<'a>,
     x: Var,
     p: Plain<'a>,
+    is_ground: bool,
 ) -> Result<Turn, Memory>
     requires made { x.num < (present store.old).next }
     requires unbound { IsUnbound (bindings_of store.old) x }
     requires part { IsBelow (present store.old).next (plain_term p) }
     requires absent { occurs x (under (bindings_of store.old) (plain_term p)) ≡ false }
+    requires no_vars { is_ground ≡ true →
+        HasNoVars (under (bindings_of store.old) (plain_term p)) }
     ensures turn { IfOk result (λ turn. (f : Ahead) → IsRuleFor turn f (bindings_of store.old)
         (bindings_of store.new) (bind x (under (bindings_of store.old) (plain_term p.entry)))) }
     ensures below { IfOk result (λ turn. (f : Ahead) →
@@ -66,21 +70,24 @@ fn bind_part<'a>(
     ensures past { IsPrefixOf (versions store.old) (versions store.new) }
     ensures kinds { kinds store.new ≡ kinds store.old }
 {
-    bind_plain(alloc, store, work, x, p)?;
+    bind_plain(alloc, store, work, x, p, is_ground)?;
     Ok(Turn::Done)
 }
 
-/// Binds an unbound variable to a part, unless it occurs there.
+/// Binds an unbound variable to a part, unless it occurs there. One that is known to be ground needs no look.
 fn bind_unless_occurs<'a>(
     alloc: Global,
     store: &mut Store<'a>,
     work: &mut Work<'a>,
     x: Var,
     p: Plain<'a>,
+    is_ground: bool,
 ) -> Result<Turn, Memory>
     requires made { x.num < (present store.old).next }
     requires unbound { IsUnbound (bindings_of store.old) x }
     requires part { IsBelow (present store.old).next (plain_term p) }
+    requires no_vars { is_ground ≡ true →
+        HasNoVars (under (bindings_of store.old) (plain_term p)) }
     ensures turn { IfOk result (λ turn. (f : Ahead) → IsRuleFor turn f (bindings_of store.old)
         (bindings_of store.new) (unless_occurs x
         (under (bindings_of store.old) (plain_term p.entry))
@@ -93,11 +100,15 @@ fn bind_unless_occurs<'a>(
     ensures past { IsPrefixOf (versions store.old) (versions store.new) }
     ensures kinds { kinds store.new ≡ kinds store.old }
 {
+    if is_ground {
+        return bind_part(alloc, store, work, x, p, true);
+    }
     let c = p.closure(alloc);
-    if store.occurs(alloc, x, &c)? {
+    let found = store.occurs(alloc, x, &c)?;
+    if found.occurs() {
         return Ok(Turn::Clash);
     }
-    bind_part(alloc, store, work, x, p)
+    bind_part(alloc, store, work, x, p, found.is_ground())
 }
 
 /// Of two different variables the one with the greater number is bound.
@@ -127,9 +138,9 @@ fn variables<'a>(
     if x.num == y.num {
         Ok(Turn::Done)
     } else if x.num < y.num {
-        bind_part(alloc, store, work, y, pair.left)
+        bind_part(alloc, store, work, y, pair.left, false)
     } else {
-        bind_part(alloc, store, work, x, pair.right)
+        bind_part(alloc, store, work, x, pair.right, false)
     }
 }
 
@@ -238,9 +249,13 @@ fn by_heads<'a>(
     ensures kinds { kinds store.new ≡ kinds store.old }
 {
     match (left, right) {
-        (Head::Form, Head::Form) => Ok(forms(ahead)),
-        (Head::Free(x), Head::Form) => bind_unless_occurs(alloc, store, work, x, ahead.next.right),
-        (Head::Form, Head::Free(y)) => bind_unless_occurs(alloc, store, work, y, ahead.next.left),
+        (Head::Form(_), Head::Form(_)) => Ok(forms(ahead)),
+        (Head::Free(x), Head::Form(is_ground)) => {
+            bind_unless_occurs(alloc, store, work, x, ahead.next.right, is_ground)
+        }
+        (Head::Form(is_ground), Head::Free(y)) => {
+            bind_unless_occurs(alloc, store, work, y, ahead.next.left, is_ground)
+        }
         (Head::Free(x), Head::Free(y)) => variables(alloc, store, work, x, y, ahead.next),
         _ => Ok(Turn::Other),
     }

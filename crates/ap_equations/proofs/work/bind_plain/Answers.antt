@@ -6,6 +6,7 @@ use Rattle.ap_defs.specs.Substitution.{occurs, under}
 use Rattle.ap_defs.specs.Terms.{NominalTerm}
 use Rattle.ap_store.proofs.AscendingLemmas.{on_none}
 use Rattle.ap_store.specs.Changes.{has_on}
+use Rattle.ap_store.specs.Marks.{HasNoVars}
 use Rattle.ap_store.specs.Triples.{Triple, is_on, with_binding}
 use Rattle.ap_store.specs.Views.{bindings_of, present}
 use Rattle.ap_rules.proofs.WorkLemmas.{go_bound}
@@ -21,6 +22,9 @@ bind_var-requires-clause-below c = subst (IsBelow (present c.args.store.now).nex
 
 pub bind_var-requires-clause-absent : goal.bind_var-requires-clause-absent
 bind_var-requires-clause-absent c = ap (λ (t : NominalTerm). occurs c.args.x (under (bindings_of c.args.store.now) t)) c.closure.ensures ∙ c.requires.absent
+
+pub bind_var-requires-clause-no_vars : goal.bind_var-requires-clause-no_vars
+bind_var-requires-clause-no_vars c = λ h. subst (λ (t : NominalTerm). HasNoVars (under (bindings_of c.args.store.now) t)) (sym c.closure.ensures) (c.requires.no_vars h)
 
 pub returns-then-has_conditions-clause-bindings : goal.returns-then-has_conditions-clause-bindings
 returns-then-has_conditions-clause-bindings c =

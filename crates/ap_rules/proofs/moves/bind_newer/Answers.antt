@@ -1,4 +1,4 @@
-use Rattle.std.proofs.Common.{◌≡◌, ◌<◌, ◌∙◌, sym, ap, subst, arith}
+use Rattle.std.proofs.Common.{◌≡◌, ◌<◌, ◌∙◌, sym, ap, subst, true≢false, arith}
 use Rattle.ap_defs.specs.Permutations.{inverse}
 use Rattle.ap_defs.specs.Renaming.{AreSwapsBelow}
 use Rattle.ap_defs.specs.Terms.{act_term}
@@ -20,6 +20,9 @@ bind_to-requires-clause-absent c =
     let (p, e) = m in
     let less = c.requires.numbers in
     other_absent (meaning_in c.args.store.now c.args.older) p c.args.x c.args.y e (λ (i : c.args.x.num ≡ c.args.y.num). omega (arith, i, less))
+
+pub bind_to-requires-clause-no_vars : goal.bind_to-requires-clause-no_vars
+bind_to-requires-clause-no_vars c = λ h. absurd (true≢false (sym h))
 
 pub returns-clause-left : goal.returns-clause-left
 returns-clause-left c =

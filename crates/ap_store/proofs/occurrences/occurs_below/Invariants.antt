@@ -1,8 +1,10 @@
--- The variable occurs in the whole where it occurs in the part in hand or in one that waits.
-use Rattle.std.proofs.Common.{◌≡◌, ◌<◌, ◌+◌, ◌^◌, ◌||◌, map}
+-- A variable occurs in the whole where it occurs in the part in hand or in one that waits; once an unbound one was seen, this is kept of the
+-- variable that is sought alone.
+use Rattle.std.proofs.Common.{◌≡◌, ◌<◌, ◌+◌, ◌^◌, ◌||◌, true, map}
 use Rattle.ap_defs.specs.Renaming.{IsBelow, rename_term}
 use Rattle.ap_defs.specs.Substitution.{occurs, under}
 use Rattle.ap_defs.specs.Terms.{term_of}
+use Rattle.ap_defs.specs.declared.terms.Var.{Var}
 use Rattle.ap_store.specs.Founds.{bare_term, occurs_in}
 use Rattle.ap_store.specs.Views.{bindings_of}
 use Rattle.ap_store.proofs.FollowLemmas.{visits_in}
@@ -11,7 +13,7 @@ use Rattle.ap_store.proofs.occurrences.occurs_below.Given as goal
 
 abbrev pub invariant-seeking : goal.invariant-seeking
 invariant-seeking l = record {
-  all : (occurs l.x (under (bindings_of l.store) (rename_term l.base (term_of l.rest))) || occurs_in_any l.store l.x l.waiting.items) ≡ occurs_in l.store l.x l.fn.first;
+  all : (y : Var) → (l.is_open ≡ true → y ≡ l.x) → (occurs y (under (bindings_of l.store) (rename_term l.base (term_of l.rest))) || occurs_in_any l.store y l.waiting.items) ≡ occurs_in l.store y l.fn.first;
   fits : l.end < 2 ^ 64;
   below : IsBelow l.end (rename_term l.base (term_of l.rest));
 }

@@ -5,7 +5,7 @@ use Rattle.ap_perm.specs.Closures.{lent_term}
 use Rattle.ap_store.specs.Slots.{IsKeptBelow, value_term}
 use Rattle.ap_store.specs.declared.slots.Slot.{Slot}
 use Rattle.ap_store.proofs.ReachLemmas.{kept_at}
-use Rattle.ap_store.proofs.StoredLemmas.{bound_in_beyond, bound_in_get}
+use Rattle.ap_store.proofs.TableLemmas.{bound_in_beyond, bound_in_get}
 use Rattle.ap_store.proofs.tables.bound_at.Goals as goal
 
 pub lent_value-requires : goal.lent_value-requires

@@ -14,7 +14,7 @@ returns-in-Form-Free-clause-turn c =
     let y = c.in-Form-Free.y in
     if_ok c.bind_unless_occurs.result
     (λ turn h. subst (IsRuleFor turn c.args.ahead.now s (bindings_of c.bind_unless_occurs.new.store))
-    (bound_right s y l r (head_form s l c.args.left c.requires.left c.in-Form-Free.is-0) (head_free s r c.args.right y c.requires.right c.in-Form-Free.is-1)) (h c.args.ahead.now))
+    (bound_right s y l r (head_form s l c.args.left c.in-Form-Free.is_ground c.requires.left c.in-Form-Free.is-0).0 (head_free s r c.args.right y c.requires.right c.in-Form-Free.is-1)) (h c.args.ahead.now))
     c.bind_unless_occurs.ensures.turn
 
 pub returns-in-Free-Form-clause-turn : goal.returns-in-Free-Form-clause-turn
@@ -25,8 +25,24 @@ returns-in-Free-Form-clause-turn c =
     let x = c.in-Free-Form.x in
     if_ok c.bind_unless_occurs-in-Free-Form.result
     (λ turn h. subst (IsRuleFor turn c.args.ahead.now s (bindings_of c.bind_unless_occurs-in-Free-Form.new.store))
-    (bound_left s x l r (head_free s l c.args.left x c.requires.left c.in-Free-Form.is-0) (head_form s r c.args.right c.requires.right c.in-Free-Form.is-1)) (h c.args.ahead.now))
+    (bound_left s x l r (head_free s l c.args.left x c.requires.left c.in-Free-Form.is-0) (head_form s r c.args.right c.in-Free-Form.is_ground c.requires.right c.in-Free-Form.is-1).0) (h c.args.ahead.now))
     c.bind_unless_occurs-in-Free-Form.ensures.turn
+
+pub bind_unless_occurs-requires-clause-no_vars : goal.bind_unless_occurs-requires-clause-no_vars
+bind_unless_occurs-requires-clause-no_vars c =
+    (head_form (bindings_of c.args.store.now) (plain_term c.args.ahead.now.next.left) c.args.left c.in-Form-Free.is_ground c.requires.left c.in-Form-Free.is-0).1
+
+pub bind_unless_occurs-requires-in-Free-Form-clause-no_vars : goal.bind_unless_occurs-requires-in-Free-Form-clause-no_vars
+bind_unless_occurs-requires-in-Free-Form-clause-no_vars c =
+    (head_form (bindings_of c.args.store.now) (plain_term c.args.ahead.now.next.right) c.args.right c.in-Free-Form.is_ground c.requires.right c.in-Free-Form.is-1).1
+
+pub forms-requires-clause-left_form : goal.forms-requires-clause-left_form
+forms-requires-clause-left_form c =
+    (head_form (bindings_of c.args.store.now) (plain_term c.args.ahead.now.next.left) c.args.left c.in-Form-Form.field-0-0 c.requires.left c.in-Form-Form.is-0).0
+
+pub forms-requires-clause-right_form : goal.forms-requires-clause-right_form
+forms-requires-clause-right_form c =
+    (head_form (bindings_of c.args.store.now) (plain_term c.args.ahead.now.next.right) c.args.right c.in-Form-Form.field-0-1 c.requires.right c.in-Form-Form.is-1).0
 
 pub returns-in-Form-Form-clause-below : goal.returns-in-Form-Form-clause-below
 returns-in-Form-Form-clause-below c = c.forms.ensures.below (present c.args.store.now).next c.requires.below

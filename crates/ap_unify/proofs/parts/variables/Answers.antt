@@ -1,4 +1,4 @@
-use Rattle.std.proofs.Common.{◌≡◌, ◌<◌, false, subst, arith}
+use Rattle.std.proofs.Common.{◌≡◌, ◌<◌, false, true≢false, subst, sym, arith}
 use Rattle.std.proofs.lemmas.Bool.Decides.{nat_tests}
 use Rattle.ap_defs.specs.Freshness.{var_eq}
 use Rattle.ap_store.specs.Views.{bindings_of}
@@ -19,6 +19,12 @@ bind_part-requires-else-x-y-2-clause-absent c =
     let l : c.args.y.num < c.args.x.num = omega (arith, c.if-x-y.false, c.if-x-y-2.false) in
     let e : var_eq c.args.x c.args.y ≡ false = grind (arith, nat_tests, l) in
     free_absent (bindings_of c.args.store.now) c.args.x c.args.y (plain_term c.args.pair.right) c.requires.right c.requires.right_unbound e
+
+pub bind_part-requires-clause-no_vars : goal.bind_part-requires-clause-no_vars
+bind_part-requires-clause-no_vars c = λ h. absurd (true≢false (sym h))
+
+pub bind_part-requires-else-x-y-2-clause-no_vars : goal.bind_part-requires-else-x-y-2-clause-no_vars
+bind_part-requires-else-x-y-2-clause-no_vars c = λ h. absurd (true≢false (sym h))
 
 pub returns-then-x-y-clause-turn : goal.returns-then-x-y-clause-turn
 returns-then-x-y-clause-turn c =

@@ -5,6 +5,7 @@ use Rattle.ap_defs.specs.Substitution.{occurs, under}
 use Rattle.ap_defs.specs.Terms.{NominalTerm}
 use Rattle.ap_perm.specs.Closures.{closure_term}
 use Rattle.ap_store.specs.Changes.{has_on, with_bound}
+use Rattle.ap_store.specs.Marks.{HasNoVars}
 use Rattle.ap_store.specs.Slots.{kept_term, term_or_unit}
 use Rattle.ap_store.specs.Triples.{Triple}
 use Rattle.ap_store.specs.Views.{bindings_of, present}
@@ -28,6 +29,12 @@ note_binding-requires-clause-absent c =
 pub note_binding-requires-clause-apart : goal.note_binding-requires-clause-apart
 note_binding-requires-clause-apart c =
     ap (λ (a : Triple). has_on c.args.x a.conditions) c.in_ok-taken.ensures.present ∙ has_on_apart c.args.x (present c.args.self.now).conditions
+
+pub note_binding-requires-clause-mark : goal.note_binding-requires-clause-mark
+note_binding-requires-clause-mark c =
+    let e : kept_term c.in_ok-value.value ≡ closure_term c.args.c = ap term_or_unit c.in_ok-value.ensures.term in
+    λ h. subst (λ (a : Triple). HasNoVars (under a.bindings (kept_term c.in_ok-value.value))) (sym c.in_ok-taken.ensures.present)
+    (subst (λ (t : NominalTerm). HasNoVars (under (bindings_of c.args.self.now) t)) (sym e) (c.requires.no_vars (c.in_ok-value.ensures.mark h)))
 
 pub returns-clause-present : goal.returns-clause-present
 returns-clause-present c =

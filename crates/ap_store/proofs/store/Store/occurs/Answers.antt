@@ -2,9 +2,18 @@ use Rattle.std.proofs.Common.{sym, ◌∙◌}
 use Rattle.ap_defs.specs.Renaming.{rename_term}
 use Rattle.ap_defs.specs.Terms.{term_of}
 use Rattle.ap_store.proofs.FollowLemmas.{bare_occurs}
+use Rattle.ap_store.proofs.WaitingLemmas.{apart_not_ground}
 use Rattle.ap_store.proofs.store.Store.occurs.Goals as goal
 
-pub returns : goal.returns
-returns c =
+pub returns-then-is_new-clause-no_vars : goal.returns-then-is_new-clause-no_vars
+returns-then-is_new-clause-no_vars c = λ e. absurd (apart_not_ground e)
+
+pub returns-clause-found : goal.returns-clause-found
+returns-clause-found c =
     let b = c.args.c.now in
-    c.in_ok-found.ensures ∙ sym (bare_occurs c.args.self.now c.args.x b.swaps.items (rename_term b.base (term_of b.term.now)))
+    c.in_ok-found.ensures.found ∙ sym (bare_occurs c.args.self.now c.args.x b.swaps.items (rename_term b.base (term_of b.term.now)))
+
+pub returns-clause-no_vars : goal.returns-clause-no_vars
+returns-clause-no_vars c =
+    let b = c.args.c.now in
+    λ e y. bare_occurs c.args.self.now y b.swaps.items (rename_term b.base (term_of b.term.now)) ∙ c.in_ok-found.ensures.no_vars e y

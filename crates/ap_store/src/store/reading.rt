@@ -1,0 +1,95 @@
+//! What is read of a store.
+
+use super::Store;
+use crate::bare::Bare;
+use crate::held::{all_of, held_of};
+use crate::slots::Found;
+use crate::tables::{bound_at, found_at};
+use ap_defs::goals::Kind;
+use ap_defs::memory::Memory;
+use ap_defs::terms::{Cond, Var};
+use ap_perm::closures::{Closure, Lent};
+use ap_perm::sets::make_set;
+use std::alloc::Global;
+
+impl<'a> Store<'a> {
+    ghost use Rattle.std.specs.Prelude.{◌≡◌, ◌<◌, [], false, true, Some, None, IfOk, MatchOption, slice_get};
+    ghost use Rattle.ap_defs.specs.Substitution.{occurs, under};
+    ghost use Rattle.ap_defs.specs.Terms.{susp};
+    ghost use Rattle.ap_defs.specs.Types.{kind_of};
+    ghost use Rattle.ap_perm.specs.Closures.{lent_term};
+    ghost use Rattle.ap_store.specs.Changes.{has_on};
+    ghost use Rattle.ap_store.specs.Founds.{IsBareOf, IsWhatIsFound, is_ground_found};
+    ghost use Rattle.ap_store.specs.Marks.{HasNoVars};
+    ghost use Rattle.ap_store.specs.Views.{bindings_of, kinds, meaning_in, present, raw_bound};
+
+    /// The closure to which a variable is bound, or none where it is unbound. It takes no memory.
+    pub fn binding(&self, x: Var) -> Option<Lent<'_, 'a>>
+        ensures { MatchOption result (raw_bound self.now x ≡ None) (λ c. raw_bound self.now x
+            ≡ Some (lent_term c)) }
+    {
+        bound_at(&self.table, x.num, self.reach)
+    }
+
+    /// What a look at a variable finds. It takes no memory.
+    pub fn found(&self, x: Var) -> Found<'a>
+        ensures found { IsWhatIsFound (raw_bound self.now x) result }
+        ensures no_vars { is_ground_found result ≡ true →
+            HasNoVars (under (bindings_of self.now) (susp [] x)) }
+    {
+        found_at(&self.table, x.num, self.reach)
+    }
+
+    /// The term of the closure to which a variable is bound, without the swappings that wait on it, or none
+    /// where it is unbound. It takes no memory.
+    pub(crate) fn bare(&self, x: Var) -> Option<Bare<'a>>
+        ensures { IsBareOf (raw_bound self.now x) result }
+    {
+        match self.found(x) {
+            Found::Nothing => None,
+            Found::Plain(b) => Some(b),
+            Found::Ground(b) => Some(b),
+            Found::Moved(b) => Some(b),
+        }
+    }
+
+    /// Whether there are conditions on a variable. It takes no memory.
+    pub fn has_conditions(&self, x: Var) -> bool
+        ensures { result ≡ has_on x (present self.now).conditions }
+    {
+        !held_of(&self.held, x.num as usize).is_empty()
+    }
+
+    /// Whether the variable is so new that neither the closure nor any bound one can have it.
+    pub(crate) fn is_new(&self, x: Var, c: &Closure<'_>) -> bool
+        ensures { result ≡ true →
+            occurs x (meaning_in self.now c.now) ≡ false }
+    {
+        self.reach <= x.num && c.end <= x.num
+    }
+
+    /// The conditions, each once, ascending by variable, then by the name's number, and then by its
+    /// sort.
+    pub fn conds(&self, alloc: Global) -> Result<Vec<Cond>, Memory>
+        ensures { IfOk result (λ conds. conds.items ≡ (present self.now).conditions) }
+    {
+        let mut conds = all_of(alloc, &self.held)?;
+        make_set(&mut conds);
+        Ok(conds)
+    }
+
+    /// The next number. It takes no memory.
+    pub fn next(&self) -> u64
+        ensures { result ≡ (present self.now).next }
+    {
+        self.table.len() as u64
+    }
+
+    /// The kind of a number that was given. It takes no memory.
+    pub fn kind(&self, num: u64) -> &'a Kind
+        requires { num < (present self.now).next }
+        ensures { slice_get (kinds self.now) num ≡ Some (kind_of result.now) }
+    {
+        &self.table[num as usize].local.kind
+    }
+}
