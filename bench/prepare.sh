@@ -14,7 +14,7 @@ build_parts() {
 
 # Builds the interpreter, and sets program to its path.
 build_program() {
-    "$bench/../alphaprolog" run --depth 1 < "$bench/../examples/first.apl" > /dev/null
+    "$bench/../alphaprolog" work --seed 1 --size 1 > /dev/null
     program=$bench/../crates/ap_cli/out/ap_cli
 }
 

@@ -246,7 +246,7 @@ def build():
         f"the program is proved and built first: {len(crates)} crates, {len(left)} of them not yet, {jobs} side by side; "
         f"about {estimate(left, below, jobs)} minutes. The log is {LOG}"
     )
-    sooner = {"ap_cli": "./alphaprolog-unproved", "ap_shell_cli": "./alphaprolog-shell --unproved"}
+    sooner = {"ap_run_cli": "./alphaprolog-unproved", "ap_cli": "./alphaprolog-unproved", "ap_shell_cli": "./alphaprolog-shell --unproved"}
     if PROGRAM in sooner:
         say(f"to look sooner, without proofs: {sooner[PROGRAM]} with the same words")
     open(LOG, "w", encoding="utf-8").close()

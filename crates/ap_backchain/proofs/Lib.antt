@@ -7,5 +7,6 @@ pub mod MarkLemmas
 pub mod PointLemmas
 pub mod RunLemmas
 pub mod SearchLemmas
+pub mod StartLemmas
 pub mod TurnLemmas
 pub mod WantedLemmas

@@ -27,8 +27,9 @@ use ap_defs::terms::Term;
 use ap_index::predicate::Predicate;
 use ap_machine::frames::Frame;
 use ap_machine::machine::Machine;
+use ap_machine::saves::Save;
 use ap_paths::Limit;
-use ap_store::store::Store;
+use ap_store::store::{Mark, Store};
 use ap_turns::ends::{End, out_at};
 use ap_turns::turns::{Turn, found, turn_of_goal};
 use std::alloc::Global;
@@ -55,6 +56,28 @@ pub fn first_machine<'a>(
     let mut store = Store::new(alloc);
     store.make(query.locals.items())?;
     let mut machine = Machine::of(alloc, store);
+    machine.push_goal(&query.goal, 0, depth)?;
+    Ok(machine)
+}
+
+/// The machine where the search of a query to a depth begins, in the memory of one that is done with.
+pub fn machine_again<'a>(
+    machine: Machine<'a>,
+    depth: u32,
+    query: &'a Query<Term>,
+) -> Result<Machine<'a>, Memory>
+    requires { IsQueryBelow (query_of query.now) }
+    ensures { IfOk result (λ b. position_of b ≡ first_position depth (query_of query.now)) }
+{
+    let mut machine = machine;
+    machine.go_back(Save {
+        mark: Mark { place: 0 },
+        cells: 0,
+        first: 0,
+        path: 0,
+        brought: 0,
+    });
+    machine.store.make(query.locals.items())?;
     machine.push_goal(&query.goal, 0, depth)?;
     Ok(machine)
 }

@@ -4,7 +4,7 @@ use ap_defs::lists::List;
 use ap_paths::Run;
 
 /// Why an entry is refused: its path is not open, or memory is wanting.
-#[derive(Clone, Copy, Debug, PartialEq, Eq)]
+#[derive(Clone, Copy, PartialEq, Eq)]
 pub enum BookError {
     NotOpen,
     Memory,
@@ -12,7 +12,7 @@ pub enum BookError {
 
 /// Why a path is not left out: it is not open, only so many answers have ended before it, or memory is
 /// wanting.
-#[derive(Clone, Copy, Debug, PartialEq, Eq)]
+#[derive(Clone, Copy, PartialEq, Eq)]
 pub enum SkipError {
     NotOpen,
     Needed(u64),

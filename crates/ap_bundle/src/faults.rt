@@ -5,7 +5,7 @@ ghost use Rattle.ap_bundle.specs.FaultKinds as spec;
 
 /// Why bytes aren't a bundle. The first line that is wrong counts, and of the faults that it may have
 /// `Unended` is told first.
-#[derive(Clone, Copy, Debug, PartialEq, Eq)]
+#[derive(Clone, Copy)]
 pub enum BundleKind {
     /// A line that is none of those below, a text that no LF follows, or bytes after the last line.
     Header,
@@ -48,7 +48,7 @@ impl BundleKind {
 }
 
 /// The first fault of a bundle: the line that is wrong, from 1, and why.
-#[derive(Clone, Copy, Debug, PartialEq, Eq)]
+#[derive(Clone, Copy)]
 pub struct BundleFault {
     pub line: u64,
     pub kind: BundleKind,

@@ -6,7 +6,7 @@ use ap_defs::memory::Memory;
 use std::alloc::{AllocError, AllocFailed};
 
 /// Why bytes give no bundle.
-#[derive(Clone, Copy, Debug, PartialEq, Eq)]
+#[derive(Clone, Copy)]
 pub enum BundleError {
     /// They aren't one: their first fault.
     Fault(BundleFault),
@@ -15,7 +15,7 @@ pub enum BundleError {
 }
 
 // What is wrong and how many bytes are left from there on, or want of memory.
-#[derive(Clone, Copy, Debug, PartialEq, Eq)]
+#[derive(Clone, Copy)]
 pub(crate) enum ReadError {
     Wrong(BundleKind, usize),
     Memory,

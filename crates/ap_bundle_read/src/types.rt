@@ -11,6 +11,7 @@ use ap_bundle::words::{Letter, Word};
 use ap_defs::memory::Memory;
 use ap_defs::terms::Ty;
 use std::alloc::Global;
+use std::sync::Arc;
 
 /// The first type, taken off.
 fn first_type(types: &mut Vec<Ty>) -> Option<Ty>
@@ -69,8 +70,8 @@ fn pair_onto(alloc: Global, numbers: Vec<u64>, types: Vec<Ty>) -> Result<Option<
     let Some(right) = first_type(&mut types) else {
         return Ok(None);
     };
-    let left = Box::new(alloc, left)?;
-    let right = Box::new(alloc, right)?;
+    let left = Arc::new(alloc, left)?;
+    let right = Arc::new(alloc, right)?;
     at_end(numbers, types, Ty::Pair(left, right))
 }
 
@@ -83,7 +84,7 @@ fn list_onto(alloc: Global, numbers: Vec<u64>, types: Vec<Ty>) -> Result<Option<
     let Some(element) = first_type(&mut types) else {
         return Ok(None);
     };
-    let element = Box::new(alloc, element)?;
+    let element = Arc::new(alloc, element)?;
     at_end(numbers, types, Ty::List(element))
 }
 
@@ -100,7 +101,7 @@ fn abs_onto(alloc: Global, numbers: Vec<u64>, types: Vec<Ty>) -> Result<Option<V
     let Some(body) = first_type(&mut types) else {
         return Ok(None);
     };
-    let body = Box::new(alloc, body)?;
+    let body = Arc::new(alloc, body)?;
     at_end(numbers, types, Ty::Abs(sort, body))
 }
 

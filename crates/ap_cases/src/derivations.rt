@@ -172,7 +172,7 @@ fn checked_in(alloc: Global, bytes: &[u8], program: &Restricted) -> Result<usize
     let bundle = read_bundle(alloc, bytes).or(Err(Memory))?;
     let mut count: usize = 0;
     for proved in bundle.proved.items() {
-        if verdict_on(alloc, program, proved)? == Verdict::Yes {
+        if matches!(verdict_on(alloc, program, proved)?, Verdict::Yes) {
             count = count.saturating_add(1);
         }
     }

@@ -4,7 +4,7 @@ ghost use Rattle.std.specs.Prelude.{◌≡◌};
 ghost use Rattle.ap_checker.specs.Rules.{rule_number};
 
 /// Why a node is refused. At a node the least rule counts.
-#[derive(Clone, Copy, PartialEq, Eq)]
+#[derive(Clone, Copy)]
 pub enum Rule {
     /// The node's form isn't that of the goal that it is to prove.
     Shape,

@@ -2,35 +2,18 @@
 //! exit status.
 #![tactic(auto)]
 
-mod counting;
-mod remembering;
-mod saying;
-
+use ap_beside::{Counting, Remembering, given_words, say};
 use ap_io::{NoGate, StdSink, StdSource};
 use ap_remarks::Tally;
 use ap_top::{Status, top};
-use counting::Counting;
-use remembering::Remembering;
-use saying::say;
-use std::alloc::AllocError;
 use std::process::ExitCode;
-use std::rt::Env;
 use std::sync::Wait;
 use std::thread::{Builder, Threads};
-use std::{env, io, thread};
+use std::{io, thread};
 
 // The stack of the thread that does the work. A term may be nested as deep as its text is long, and
 // a walk down it, or its drop, takes a frame a level. Memory is taken only for what is used of it.
 const STACK: usize = 1 << 30;
-
-/// The words after the program's name. Where one isn't UTF-8 there are none, which is refused too.
-fn words(rt: &(impl Env + AllocGlobal)) -> Result<Vec<String>, AllocError> {
-    match env::args(rt) {
-        Ok(args) => args.skip(1).collect(rt.alloc()),
-        Err(error) if error.kind() == io::ErrorKind::OutOfMemory => Err(AllocError),
-        Err(_) => Ok(Vec::new(rt.alloc())),
-    }
-}
 
 /// The word that names the command.
 fn command(words: &[String]) -> &str {
@@ -76,7 +59,7 @@ fn run<R: Threads + Wait + Sync + AllocGlobal + Input + Print + Eprint>(
 }
 
 fn main(rt: HostRuntime) -> ExitCode {
-    let Ok(words) = words(&rt) else {
+    let Ok(words) = given_words(&rt) else {
         return ExitCode::from(Status::Memory.code());
     };
     let status = thread::scope(thread::scope_env(), &rt, |scope| {

@@ -3,6 +3,6 @@ pub mod WalkLemmas
 pub mod PartLemmas
 mod WeightLemmas
 mod TermWeights
-mod TypeWeights
+mod LeftLemmas
 mod ShapeWeights
 mod PathLemmas

@@ -26,4 +26,5 @@ pub mod FaultKinds
 pub mod Limits
 pub mod Spines
 pub mod Weights
+pub mod Lefts
 pub mod Walks

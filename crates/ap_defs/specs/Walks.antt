@@ -1,22 +1,15 @@
--- Terms and types while they are made anew, part by part: what is made of a term's parts is what `f` makes of each.
+-- Terms while they are made anew, part by part: what is made of a term's parts is what `f` makes of each.
 use Rattle.std.specs.Prelude.{ℕ, ◌+◌, ◌*◌, List, [], ◌∷◌, ◌++◌}
 use Rattle.ap_defs.specs.declared.walks.TermFrame.{TermFrame}
 use Rattle.ap_defs.specs.declared.walks.TermFrame.TheVariants as round_term
 use Rattle.ap_defs.specs.declared.walks.TermPart.{TermPart}
 use Rattle.ap_defs.specs.declared.walks.TermPart.TheVariants as of_term
-use Rattle.ap_defs.specs.declared.walks.TypeFrame.{TypeFrame}
-use Rattle.ap_defs.specs.declared.walks.TypeFrame.TheVariants as round_type
-use Rattle.ap_defs.specs.declared.walks.TypePart.{TypePart}
-use Rattle.ap_defs.specs.declared.walks.TypePart.TheVariants as of_type
-use Rattle.ap_defs.specs.Spines.{term_in, type_in}
+use Rattle.ap_defs.specs.Spines.{term_in}
 use Rattle.std.specs.Borrow.{Bor}
 use Rattle.ap_defs.specs.declared.terms.Term.{Term}
 use Rattle.ap_defs.specs.declared.walks.Parts.{Parts}
 use Rattle.ap_defs.specs.Terms.{NominalTerm, abs, app, name, pair, susp, term_of, unit}
-use Rattle.ap_defs.specs.Types.{NominalType, type_of}
-use Rattle.ap_defs.specs.Types as types
 use Rattle.ap_defs.specs.Unification.{size}
-use Rattle.ap_defs.specs.Weights.{type_weight}
 
 -- what is made of a part
 abbrev pub term_made : (NominalTerm → NominalTerm) → TermPart → NominalTerm
@@ -45,31 +38,6 @@ term_frame_work (round_term.Before t) = 2 + 3 * size (term_of t.now)
 abbrev pub term_frames_work : List TermFrame → ℕ
 term_frames_work [] = 0
 term_frames_work (k ∷ ks) = term_frame_work k + term_frames_work ks
-
--- The same of a type, of which a copy is made.
-abbrev pub type_made : TypePart → NominalType
-type_made (of_type.Left t) = type_of t.now
-type_made (of_type.Made t) = type_of t
-
-abbrev pub type_framed : TypeFrame → NominalType → NominalType
-type_framed (round_type.In l) t = type_in l t
-type_framed (round_type.Before u) t = types.pair t (type_of u.now)
-
-abbrev pub type_in_frames : List TypeFrame → NominalType → NominalType
-type_in_frames [] t = t
-type_in_frames (k ∷ ks) t = type_framed k (type_in_frames ks t)
-
-abbrev pub type_work : TypePart → ℕ
-type_work (of_type.Left t) = 3 * type_weight (type_of t.now)
-type_work (of_type.Made t) = 0
-
-abbrev pub type_frame_work : TypeFrame → ℕ
-type_frame_work (round_type.In l) = 1
-type_frame_work (round_type.Before t) = 2 + 3 * type_weight (type_of t.now)
-
-abbrev pub type_frames_work : List TypeFrame → ℕ
-type_frames_work [] = 0
-type_frames_work (k ∷ ks) = type_frame_work k + type_frames_work ks
 
 -- The parts of a term, itself first, and those of a left part before those of the right one.
 abbrev pub parts_of : NominalTerm → List NominalTerm

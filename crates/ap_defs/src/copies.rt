@@ -5,16 +5,15 @@ ghost use Rattle.ap_defs.specs.Terms.{term_of};
 ghost use Rattle.ap_defs.specs.Types.{type_of, kind_of};
 ghost use Rattle.ap_defs.specs.Unification.{size};
 ghost use Rattle.ap_defs.specs.Walks.{term_in_frames, term_made, term_work, term_frames_work};
-ghost use Rattle.ap_defs.specs.Walks.{type_in_frames, type_made, type_work, type_frames_work};
-ghost use Rattle.ap_defs.specs.Weights.{type_weight};
 
 use crate::goals::Kind;
 use crate::lists::Swaps;
 use crate::memory::Memory;
-use crate::spines::{TermLayer, TypeLayer};
+use crate::spines::TermLayer;
 use crate::terms::{Name, Term, Ty};
-use crate::walks::{TermFrame, TermPart, TypeFrame, TypePart, leave_term, leave_type};
+use crate::walks::{TermFrame, TermPart, leave_term};
 use std::alloc::Global;
+use std::sync::Arc;
 
 /// Reads a part of a term: what stands round the next one is kept, unless this one has no parts.
 fn copy_part<'a>(
@@ -71,60 +70,26 @@ pub fn copy_term(alloc: Global, t: &Term) -> Result<Term, Memory>
     }
 }
 
-/// Reads a part of a type, as of a term.
-fn copy_type_part<'a>(
-    alloc: Global,
-    frames: &mut Vec<TypeFrame<'a>>,
-    t: &'a Ty,
-) -> Result<TypePart<'a>, Memory>
-    ensures same { IfOk result (λ p. type_in_frames frames.new.items (type_made p)
-        ≡ type_in_frames frames.old.items (type_of t.now)) }
-    ensures less { IfOk result (λ p. type_frames_work frames.new.items + type_work p
-        < type_frames_work frames.old.items + 3 * type_weight (type_of t.now)) }
-{
-    match t {
-        Ty::Unit => Ok(TypePart::Made(Ty::Unit)),
-        Ty::Names(sort) => Ok(TypePart::Made(Ty::Names(*sort))),
-        Ty::Base(data) => Ok(TypePart::Made(Ty::Base(*data))),
-        Ty::Pair(left, right) => {
-            frames.push(TypeFrame::Before(right))?;
-            Ok(TypePart::Left(left))
-        }
-        Ty::List(element) => {
-            frames.push(TypeFrame::In(TypeLayer::List))?;
-            Ok(TypePart::Left(element))
-        }
-        Ty::Abs(sort, body) => {
-            frames.push(TypeFrame::In(TypeLayer::Abs(*sort)))?;
-            Ok(TypePart::Left(body))
-        }
-    }
-}
-
-/// A copy of a type.
-#[tactic(auto, using(crate::proofs::WalkLemmas::type_frames_last, crate::proofs::WalkLemmas::type_work_last))]
-pub fn copy_type(alloc: Global, t: &Ty) -> Result<Ty, Memory>
+/// A copy of a type, which shares its parts. `Err`: a part has as many owners as can be counted.
+pub fn copy_type(t: &Ty) -> Result<Ty, Memory>
     ensures { IfOk result (λ u. type_of u ≡ type_of t.now) }
 {
-    let mut frames = Vec::new(alloc);
-    let mut part = TypePart::Left(t);
-    'copying: loop {
-        match part {
-            TypePart::Left(t) => part = copy_type_part(alloc, &mut frames, t)?,
-            TypePart::Made(t) => match frames.pop() {
-                None => return Ok(t),
-                Some(frame) => part = leave_type(alloc, &mut frames, frame, t)?,
-            },
-        }
+    match t {
+        Ty::Unit => Ok(Ty::Unit),
+        Ty::Names(sort) => Ok(Ty::Names(*sort)),
+        Ty::Base(data) => Ok(Ty::Base(*data)),
+        Ty::Pair(left, right) => Ok(Ty::Pair(Arc::try_clone(left)?, Arc::try_clone(right)?)),
+        Ty::List(element) => Ok(Ty::List(Arc::try_clone(element)?)),
+        Ty::Abs(sort, body) => Ok(Ty::Abs(*sort, Arc::try_clone(body)?)),
     }
 }
 
 /// A copy of a kind.
-pub fn copy_kind(alloc: Global, kind: &Kind) -> Result<Kind, Memory>
+pub fn copy_kind(kind: &Kind) -> Result<Kind, Memory>
     ensures { IfOk result (λ copied. kind_of copied ≡ kind_of kind.now) }
 {
     match kind {
         Kind::Name(sort) => Ok(Kind::Name(*sort)),
-        Kind::Var(t) => Ok(Kind::Var(copy_type(alloc, t)?)),
+        Kind::Var(t) => Ok(Kind::Var(copy_type(t)?)),
     }
 }

@@ -9,7 +9,7 @@ ghost use Rattle.ap_defs.specs.FaultKinds as spec;
 use crate::lists::Text;
 
 /// Where a fault stands: an item of the text, by its number from 1, and a line, from 1.
-#[derive(Clone, Copy, Debug, PartialEq, Eq)]
+#[derive(Clone, Copy)]
 pub struct Place {
     pub item: u32,
     pub line: u64,
@@ -17,7 +17,7 @@ pub struct Place {
 
 /// Why a text doesn't split into tokens (`NotUtf8`, `Character`), or an item isn't in the grammar. Of the
 /// last three `Unended` is told first, then `TooDeep`, then `Grammar`.
-#[derive(Clone, Copy, Debug, PartialEq, Eq)]
+#[derive(Clone, Copy)]
 pub enum SyntaxKind {
     /// No UTF-8 character begins at the place.
     NotUtf8,
@@ -60,7 +60,7 @@ impl SyntaxKind {
 }
 
 /// Why an item isn't well typed.
-#[derive(Clone, Copy, Debug, PartialEq, Eq)]
+#[derive(Clone, Copy, PartialEq, Eq)]
 pub enum TypeKind {
     /// A word isn't declared.
     Undeclared,
@@ -107,7 +107,7 @@ impl TypeKind {
 }
 
 /// How an item breaks the name restriction.
-#[derive(Clone, Copy, Debug, PartialEq, Eq)]
+#[derive(Clone, Copy)]
 pub enum NameKind {
     /// A binder is a variable.
     VariableBinder,
@@ -143,14 +143,14 @@ impl NameKind {
 
 /// A fault of the tokens, at the first place of the text where nothing begins, or of the first item that
 /// isn't in the grammar.
-#[derive(Clone, Copy, Debug, PartialEq, Eq)]
+#[derive(Clone, Copy)]
 pub struct SyntaxFault {
     pub place: Place,
     pub kind: SyntaxKind,
 }
 
 /// The fault of the first item that isn't well typed, with the least kind that applies.
-#[derive(Clone, Copy, Debug, PartialEq, Eq)]
+#[derive(Clone, Copy)]
 pub struct TypeFault {
     pub place: Place,
     pub kind: TypeKind,
@@ -158,7 +158,7 @@ pub struct TypeFault {
 
 /// The fault of the first item that breaks the name restriction, with the least kind that applies, and how
 /// the identifier is spelled that is at fault.
-#[derive(Debug, Drop)]
+#[derive(Drop)]
 pub struct NameFault {
     pub place: Place,
     pub kind: NameKind,
@@ -166,7 +166,7 @@ pub struct NameFault {
 }
 
 /// The first fault of a text.
-#[derive(Debug, Drop)]
+#[derive(Drop)]
 pub enum Fault {
     Syntax(SyntaxFault),
     Types(TypeFault),

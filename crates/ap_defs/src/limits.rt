@@ -16,7 +16,7 @@ pub const SIZE_LIMIT: usize = 16_777_216;
 
 /// A depth to which queries are searched: a number from 0 to 1,000,000. Contracts see it as that
 /// number.
-#[derive(Clone, Copy, PartialEq, Eq)]
+#[derive(Clone, Copy)]
 pub struct Depth {
     number: u32,
 }
@@ -56,7 +56,7 @@ impl Depth {
 }
 
 /// How many workers search side by side: a number from 1 to 64. Contracts see it as that number.
-#[derive(Clone, Copy, PartialEq, Eq)]
+#[derive(Clone, Copy)]
 pub struct Workers {
     number: u32,
 }

@@ -3,7 +3,7 @@
 use std::alloc::{AllocError, AllocFailed};
 
 /// The allocator refused a growth. It is the one answer that no clause ties to a cause.
-#[derive(Clone, Copy, Debug, PartialEq, Eq)]
+#[derive(Clone, Copy)]
 pub struct Memory;
 
 impl From<AllocError> for Memory {

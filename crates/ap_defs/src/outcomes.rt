@@ -121,7 +121,7 @@ pub struct Bundle {
 }
 
 /// What a checker says: yes, or the first refused node and its least rule.
-#[derive(Clone, Copy, PartialEq, Eq)]
+#[derive(Clone, Copy)]
 pub enum Verdict {
     Yes,
     No { node: u64, rule: u32 },

@@ -13,6 +13,7 @@ use crate::goals::Goal;
 use crate::memory::Memory;
 use crate::terms::{Name, Term, Ty, Var};
 use std::alloc::Global;
+use std::sync::Arc;
 
 /// What stands round a part of a term: the part is right of a term in a pair, the argument of a
 /// constructor, or the body of an abstraction.
@@ -69,16 +70,16 @@ pub fn close_term(alloc: Global, mut layers: Vec<TermLayer>, t: Term) -> Result<
 }
 
 /// A type in a layer.
-pub(crate) fn type_in(alloc: Global, layer: TypeLayer, t: Ty) -> Result<Ty, Memory>
+fn type_in(alloc: Global, layer: TypeLayer, t: Ty) -> Result<Ty, Memory>
     ensures { IfOk result (λ u. type_of u ≡ type_in layer (type_of t)) }
 {
     match layer {
         TypeLayer::Left(left) => {
-            let left = Box::new(alloc, left)?;
-            Ok(Ty::Pair(left, Box::new(alloc, t)?))
+            let left = Arc::new(alloc, left)?;
+            Ok(Ty::Pair(left, Arc::new(alloc, t)?))
         }
-        TypeLayer::List => Ok(Ty::List(Box::new(alloc, t)?)),
-        TypeLayer::Abs(sort) => Ok(Ty::Abs(sort, Box::new(alloc, t)?)),
+        TypeLayer::List => Ok(Ty::List(Arc::new(alloc, t)?)),
+        TypeLayer::Abs(sort) => Ok(Ty::Abs(sort, Arc::new(alloc, t)?)),
     }
 }
 

@@ -1,17 +1,15 @@
-//! Terms and types that are made anew, part by part.
+//! Terms that are made anew, part by part.
 //!
 //! What stands round the part in hand lies on a stack, so a part may be as deep as memory has room for, on
 //! either side.
 
 ghost use Rattle.std.specs.Prelude.{◌≡◌, ◌<◌, ◌+◌, ◌++◌, ◌∷◌, ℕ, IfOk, OnOk};
 ghost use Rattle.ap_defs.specs.Terms.{NominalTerm, term_of};
-ghost use Rattle.ap_defs.specs.Types.{NominalType, type_of};
 ghost use Rattle.ap_defs.specs.Walks.{term_framed, term_in_frames, term_made, term_work, term_frame_work, term_frames_work, parts_of, waiting_parts};
-ghost use Rattle.ap_defs.specs.Walks.{type_framed, type_in_frames, type_made, type_work, type_frame_work, type_frames_work};
 
 use crate::memory::Memory;
-use crate::spines::{TermLayer, TypeLayer, term_in, type_in};
-use crate::terms::{Term, Ty};
+use crate::spines::{TermLayer, term_in};
+use crate::terms::Term;
 use std::alloc::Global;
 
 /// What stands round the part in hand: a layer that is made, or the right part of a pair, which waits.
@@ -48,42 +46,6 @@ pub fn leave_term<'a>(
         TermFrame::Before(right) => {
             frames.push(TermFrame::In(TermLayer::Left(made)))?;
             Ok(TermPart::Left(right))
-        }
-    }
-}
-
-/// The same of a type.
-#[derive(Drop)]
-pub enum TypeFrame<'a> {
-    In(TypeLayer),
-    Before(&'a Ty),
-}
-
-/// A part of a type that is still to be read, or what was made of one.
-#[derive(Drop)]
-pub enum TypePart<'a> {
-    Left(&'a Ty),
-    Made(Ty),
-}
-
-/// Goes out of a part of a type that is made, as out of one of a term.
-#[tactic(auto, using(crate::proofs::WalkLemmas::type_frames_last, crate::proofs::WalkLemmas::type_work_last))]
-pub fn leave_type<'a>(
-    alloc: Global,
-    frames: &mut Vec<TypeFrame<'a>>,
-    frame: TypeFrame<'a>,
-    made: Ty,
-) -> Result<TypePart<'a>, Memory>
-    ensures same { IfOk result (λ p. type_in_frames frames.new.items (type_made p)
-        ≡ type_in_frames frames.old.items (type_framed frame.entry (type_of made))) }
-    ensures less { IfOk result (λ p. type_frames_work frames.new.items + type_work p
-        < type_frames_work frames.old.items + type_frame_work frame.entry) }
-{
-    match frame {
-        TypeFrame::In(layer) => Ok(TypePart::Made(type_in(alloc, layer, made)?)),
-        TypeFrame::Before(right) => {
-            frames.push(TypeFrame::In(TypeLayer::Left(made)))?;
-            Ok(TypePart::Left(right))
         }
     }
 }

@@ -6,7 +6,7 @@ use ap_defs::limits::{Depth, Workers};
 pub const MOST_ANSWERS: u64 = 1_000_000;
 
 /// Where messages go.
-#[derive(Clone, Copy, PartialEq, Eq)]
+#[derive(Clone, Copy)]
 pub enum Channel {
     /// To standard error.
     Beside,
@@ -15,7 +15,7 @@ pub enum Channel {
 }
 
 /// The commands.
-#[derive(Clone, Copy, PartialEq, Eq)]
+#[derive(Clone, Copy)]
 pub enum Command {
     Add,
     Answers,

@@ -16,7 +16,7 @@ fn copy_types(alloc: Global, types: &[Ty]) -> Result<Vec<Ty>, Memory>
 {
     let mut copied = Vec::new(alloc);
     for ty in types {
-        copied.push(copy_type(alloc, ty)?)?;
+        copied.push(copy_type(ty)?)?;
     }
     Ok(copied)
 }

@@ -146,7 +146,7 @@ fn before_conclusion(
 fn copy_local(alloc: Global, local: &Local) -> Result<Local, Memory>
     ensures { IfOk result (λ l. local_of l ≡ local_of local.now) }
 {
-    let kind = copy_kind(alloc, &local.kind)?;
+    let kind = copy_kind(&local.kind)?;
     let text = local.text.copy(alloc)?;
     Ok(Local {
         kind,

@@ -1,7 +1,5 @@
 pub mod LayerLemmas
 pub mod TakenLemmas
-pub mod PartTests
-pub mod ReadLemmas
 pub mod Lookups
 pub mod Walks
 pub mod Assignments
@@ -17,6 +15,6 @@ pub mod Solutions
 pub mod Readings
 pub mod Findings
 pub mod SolvedLemmas
+pub mod ReadLemmas
+pub mod PlaceLemmas
 pub mod InhabitedLemmas
-pub mod ClosedLemmas
-pub mod OpenLemmas

@@ -1,22 +1,15 @@
 -- What solving gives, at equal equations.
-use Rattle.std.proofs.Common.{◌≡◌, ◌<◌, ◌≤◌, ◌+◌, ◌⊎◌, ◌∙◌, ◌↔◌, ℕ, List, [], ◌∷◌, ◌++◌, length, map, refl, sym, ap, subst, inl, inr, arith, Result, Ok, Err, Vec, Global}
+use Rattle.std.proofs.Common.{◌≡◌, ◌↔◌, ℕ, List, map, subst, Result, Ok, Err}
 use Rattle.std.specs.Prelude.{IfOk, IfErr}
-use Rattle.std.proofs.lemmas.List.{get_or_append_left}
-use Rattle.std.proofs.Math.Seq.{get_or-append_seam}
-use Rattle.ap_defs.specs.declared.goals.Kind.{Kind}
 use Rattle.ap_defs.specs.declared.terms.Shape.{Shape}
-use Rattle.ap_defs.specs.Types.{TypeShape, NominalKind, NominalSignature, hole, kind_of}
+use Rattle.ap_defs.specs.Types.{TypeShape}
 use Rattle.ap_types.specs.declared.errors.TypesError.{TypesError}
 use Rattle.ap_types.specs.declared.errors.TypesError.TheVariants.{Clash}
 use Rattle.ap_types.specs.declared.solved.Solved.{Solved}
-use Rattle.ap_types.specs.Solving.{shape_at}
 use Rattle.ap_types.specs.Triangular.{assignment_of}
-use Rattle.ap_kinds.specs.declared.kinds.IdentKind.{IdentKind}
-use Rattle.ap_kinds.specs.declared.errors.KindsError.{KindsError}
-use Rattle.ap_kinds.specs.declared.errors.KindsError.TheVariants as errors
 use Rattle.ap_types.specs.Equations.{ShapeEquation, equation_of, Filling, GivesNames, IsSolution, IsShapeInstance}
 use Rattle.ap_types.specs.Assignments.{AreNames, IsUnsolvable}
-use Rattle.ap_kinds.specs.Reading.{is_declared, is_closed, read_kind, read_kinds, name_count, data_count, AreFirst, IsSystemSolved, AreKindsRead, IsUnread}
+use Rattle.ap_kinds.specs.Reading.{IsSystemSolved}
 
 unsolvable_as : (es fs : List (Shape × Shape)) (xs ys : List ℕ) (n m : ℕ) → es ≡ fs → xs ≡ ys → n ≡ m → IsUnsolvable (map equation_of es) xs n → IsUnsolvable (map equation_of fs) ys m
 unsolvable_as es fs xs ys n m e d c h =
@@ -47,52 +40,3 @@ pub unsolvable_table : (r : Result Solved TypesError) (es fs : List (Shape × Sh
     → IfErr r (λ e. e ≡ Clash → IsUnsolvable (map equation_of es) xs n) → IfErr r (λ e. e ≡ Clash → IsUnsolvable (map equation_of fs) ys m)
 unsolvable_table (Ok s) es fs xs ys n m e d c h = tt
 unsolvable_table (Err x) es fs xs ys n m e d c h = λ i. unsolvable_as es fs xs ys n m e d c (h i)
-
--- Kinds are read off the shapes of the first holes alone.
-read_first : (ts us : List TypeShape) (i : ℕ) (cs : List IdentKind) → AreFirst (i + length cs) ts us → read_kinds ts i cs ≡ read_kinds us i cs
-read_first ts us i [] h = refl
-read_first ts us i (c ∷ cs) h =
-    let e : read_kind c (shape_at ts i) ≡ read_kind c (shape_at us i) = ap (read_kind c) (h i (omega arith)) in
-    let d = read_first ts us (i + 1) cs (λ x l. h x (omega arith)) in
-    ap (λ k. k ∷ read_kinds ts (i + 1) cs) e ∙ ap (λ ks. read_kind c (shape_at us i) ∷ ks) d
-
-pub is_read_first : (sig : NominalSignature) (idents : List IdentKind) (ts us : List TypeShape) (ks : List NominalKind) → AreFirst (length idents) ts us → AreKindsRead sig idents ts ks → AreKindsRead sig idents us ks
-is_read_first sig idents ts us ks h r = record {
-  declared = λ x l. ap (is_declared (name_count sig) (data_count sig)) (sym (h x l)) ∙ r.declared x l;
-  closed = λ x l. ap is_closed (sym (h x l)) ∙ r.closed x l;
-  read = r.read ∙ read_first ts us 0 idents (λ x l. h x (omega arith));
-}
-
-pub is_unread_first : (e : KindsError) (sig : NominalSignature) (idents : List IdentKind) (ts us : List TypeShape) → AreFirst (length idents) ts us → IsUnread e sig idents ts → IsUnread e sig idents us
-is_unread_first errors.Clash sig idents ts us h r = (r.0, r.1, ap (is_declared (name_count sig) (data_count sig)) (sym (h r.0 r.1)) ∙ r.2)
-is_unread_first errors.Ambiguous sig idents ts us h r = (
-  (λ x l. ap (is_declared (name_count sig) (data_count sig)) (sym (h x l)) ∙ r.0 x l),
-  (r.1.0, r.1.1, ap is_closed (sym (h r.1.0 r.1.1)) ∙ r.1.2),
-)
-is_unread_first errors.Empty sig idents ts us h r = (r.0, is_read_first sig idents ts us r.0 h r.1, r.2)
-is_unread_first errors.Memory sig idents ts us h r = tt
-
--- The same for what the program returns.
-pub read_as : (r : Result (Vec Kind Global) KindsError) (sig : NominalSignature) (idents : List IdentKind) (ts us : List TypeShape) → AreFirst (length idents) ts us
-    → IfOk r (λ ks. AreKindsRead sig idents ts (map kind_of ks.items)) → IfOk r (λ ks. AreKindsRead sig idents us (map kind_of ks.items))
-read_as (Ok ks) sig idents ts us h r = is_read_first sig idents ts us (map kind_of ks.items) h r
-read_as (Err e) sig idents ts us h r = tt
-
-pub unread_as : (r : Result (Vec Kind Global) KindsError) (sig : NominalSignature) (idents : List IdentKind) (ts us : List TypeShape) → AreFirst (length idents) ts us
-    → IfErr r (λ e. IsUnread e sig idents ts) → IfErr r (λ e. IsUnread e sig idents us)
-unread_as (Ok ks) sig idents ts us h r = tt
-unread_as (Err e) sig idents ts us h r = is_unread_first e sig idents ts us h r
-
--- One more shape, in a loop over the first holes.
-pub first_more : (ts us : List TypeShape) (t : TypeShape) (x : ℕ) → length ts ≡ x → AreFirst x ts us → t ≡ shape_at us x → AreFirst (x + 1) (ts ++ t ∷ []) us
-first_more ts us t x e h i y l =
-    elim (below_or_past y x) [
-      | inl b ↦ get_or_append_left ts (t ∷ []) (hole y) y (omega arith) ∙ h y b
-      | inr b ↦
-          let k : y ≡ length ts = omega arith in
-          let j : y ≡ x = omega arith in
-          ap (shape_at (ts ++ t ∷ [])) k ∙ get_or-append_seam ts t [] (hole (length ts)) ∙ i ∙ ap (shape_at us) (sym j)
-    ]
-  where
-    below_or_past : (i j : ℕ) → (i < j) ⊎ (j ≤ i)
-    below_or_past i j = grind arith

@@ -3,7 +3,6 @@ pub mod Turned
 pub mod ItemKinds
 pub mod Reading
 pub mod ReadTypes
-pub mod ShapeTests
 pub mod Systems
 pub mod Layers
 pub mod Gathering

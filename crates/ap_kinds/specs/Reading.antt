@@ -5,7 +5,6 @@ use Rattle.ap_defs.specs.Types as types
 use Rattle.ap_types.specs.Equations.{Filling, GivesNames, IsSolution, IsShapeInstance}
 use Rattle.ap_types.specs.Solving.{shape_at}
 use Rattle.ap_types.specs.Assignments.{AreNames, IsUnsolvable}
-use Rattle.ap_types.specs.Triangular.{value_of}
 use Rattle.ap_program.specs.Typed.{AreInhabited}
 use Rattle.ap_kinds.specs.declared.kinds.IdentKind.{IdentKind}
 use Rattle.ap_kinds.specs.declared.kinds.IdentKind.TheVariants as classes
@@ -65,10 +64,6 @@ pub record IsSystemSolved (n : ℕ) (s : EquationSystem) (ts : List TypeShape) :
   pub most_general : (f : Filling) → IsSolution s.equations s.names n f ↔ (IsShapeInstance ts f × GivesNames n f s.names)
   pub constrained : AreNames n ts s.names
 
--- the shapes of the first holes are those of the second list
-abbrev pub AreFirst : ℕ → List TypeShape → List TypeShape → Type 0
-AreFirst count ts us = (x : ℕ) → x < count → shape_at ts x ≡ shape_at us x
-
 abbrev pub AllDeclared : ℕ → ℕ → ℕ → List TypeShape → Type 0
 AllDeclared n m count ts = (x : ℕ) → x < count → is_declared n m (shape_at ts x) ≡ true
 
@@ -113,16 +108,3 @@ IsUnsolved errors.Memory sig s = Unit {0}
 -- nothing solves the system, or what does gives no inhabited kinds
 abbrev pub IsNotFound : KindsError → NominalSignature → List IdentKind → EquationSystem → Type 0
 IsNotFound e sig idents s = IsUnsolved e sig s ⊎ ((ts : List TypeShape) × IsSystemSolved (name_count sig) s ts × IsUnread e sig idents ts)
-
--- one of the places is open
-abbrev pub SomeOpenPlace : List TypeShape → List ℕ → Type 0
-SomeOpenPlace ts [] = ⊥
-SomeOpenPlace ts (x ∷ xs) = (is_closed (value_of ts x) ≡ false) ⊎ SomeOpenPlace ts xs
-
--- each place of the table is declared
-abbrev pub AreDeclaredPlaces : ℕ → ℕ → List TypeShape → Type 0
-AreDeclaredPlaces n m ts = (x : ℕ) → is_declared n m (shape_at ts x) ≡ true
-
--- all shapes are declared, and some is open
-abbrev pub IsAmbiguous : ℕ → ℕ → ℕ → List TypeShape → Type 0
-IsAmbiguous n m count ts = AllDeclared n m count ts × SomeOpen count ts

@@ -8,7 +8,7 @@ use std::alloc::{AllocError, AllocFailed};
 
 /// No kinds type the item; more than one list of kinds does; the only one gives a variable a type that
 /// is not inhabited; or want of memory.
-#[derive(Clone, Copy, Debug, PartialEq, Eq)]
+#[derive(Clone, Copy)]
 pub enum KindsError {
     Clash,
     Ambiguous,

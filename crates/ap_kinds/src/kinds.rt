@@ -1,31 +1,33 @@
 //! The kinds of an item's identifiers.
 
 ghost use Rattle.std.specs.Prelude.{◌≡◌, length, map, IfOk, IfErr};
-ghost use Rattle.ap_defs.specs.Types.{shape_of, kind_of, signature_of};
+ghost use Rattle.ap_defs.specs.Types.{kind_of, signature_of};
 ghost use Rattle.ap_defs.specs.RawTerms.{raw_of};
 ghost use Rattle.ap_defs.specs.Goals.{goal_over};
 ghost use Rattle.ap_types.specs.Assignments.{IsUnsolvable};
 ghost use Rattle.ap_types.specs.Tables.{AreInhabitants};
 ghost use Rattle.ap_types.specs.Triangular.{shapes_of_nodes, assignment_of, IsSettledTable};
+ghost use Rattle.ap_types.specs.Walking.{AreInOrder};
 ghost use Rattle.ap_program.specs.Typed.{AreInhabited};
 ghost use Rattle.ap_kinds.specs.ItemKinds.{TypesQuery, TypesClause, IsInferred, IsRefused};
 ghost use Rattle.ap_kinds.specs.Systems.{system_of, started};
 ghost use Rattle.ap_kinds.specs.Gathering.{gather_goal, gather_atom};
-ghost use Rattle.ap_kinds.specs.Reading.{name_count, AreFirst, IsSystemSolved, AreKindsRead, IsUnread, IsFound, IsNotFound};
+ghost use Rattle.ap_kinds.specs.Reading.{name_count, IsSystemSolved, AreKindsRead, IsUnread, IsFound, IsNotFound};
 
-use crate::closed::is_ambiguous;
 use crate::errors::KindsError;
 use crate::goals::{gather_atom, gather_goal};
+use crate::read_types::Declared;
 use crate::reading::read_inhabited;
 use crate::systems::{System, started};
+use crate::tables::read_holes;
 use ap_defs::goals::{Goal, Kind, Signature};
 use ap_defs::lists::List;
 use ap_defs::memory::Memory;
-use ap_defs::terms::{Raw, Shape};
+use ap_defs::terms::Raw;
 use ap_types::equations::solved;
 use ap_types::errors::TypesError;
 use ap_types::inhabitants::Inhabitants;
-use ap_types::solved::{Solved, value_of};
+use ap_types::solved::Solved;
 use std::alloc::Global;
 
 /// Whether an identifier is a name or a variable.
@@ -39,6 +41,7 @@ pub enum IdentKind {
 /// so more name types than that count as want of memory.
 fn table_of_holes(alloc: Global, sig: &Signature, system: &System) -> Result<Solved, TypesError>
     ensures settled { IfOk result (λ s. IsSettledTable (shapes_of_nodes s.nodes.items)) }
+    ensures order { IfOk result (λ s. AreInOrder (shapes_of_nodes s.nodes.items) s.order.items) }
     ensures ok { IfOk result (λ s. IsSystemSolved (name_count (signature_of sig.now))
         (system_of system.now) (assignment_of s)) }
     ensures clash { IfErr result (λ e. e ≡ TypesError.Clash →
@@ -54,18 +57,6 @@ fn table_of_holes(alloc: Global, sig: &Signature, system: &System) -> Result<Sol
     solved(alloc, equations, names, name_types as u32)
 }
 
-/// The shapes of the first holes, which are those of the identifiers.
-fn first_shapes(alloc: Global, table: &Solved, count: usize) -> Result<Vec<Shape>, Memory>
-    requires { IsSettledTable (shapes_of_nodes table.now.nodes.items) }
-    ensures { IfOk result (λ v. AreFirst count (map shape_of v.items) (assignment_of table.now)) }
-{
-    let mut shapes = Vec::with_capacity(alloc, count)?;
-    for x in 0..count {
-        shapes.push(value_of(alloc, table, x)?)?;
-    }
-    Ok(shapes)
-}
-
 /// The kinds of identifiers, by the table of their system.
 fn read_table(
     alloc: Global,
@@ -76,6 +67,7 @@ fn read_table(
 ) -> Result<Vec<Kind>, KindsError>
     requires inhabited { AreInhabitants (signature_of sig.now).constructors inhabitants.now }
     requires settled { IsSettledTable (shapes_of_nodes table.now.nodes.items) }
+    requires order { AreInOrder (shapes_of_nodes table.now.nodes.items) table.now.order.items }
     ensures read { IfOk result (λ ks. AreKindsRead (signature_of sig.now) idents.now
         (assignment_of table.now) (map kind_of ks.items)) }
     ensures inhabited { IfOk result (λ ks. AreInhabited (signature_of sig.now).constructors
@@ -83,14 +75,13 @@ fn read_table(
     ensures unread { IfErr result (λ e. IsUnread e (signature_of sig.now) idents.now
         (assignment_of table.now)) }
 {
-    let name_types = sig.name_types.items().len();
-    let data_types = sig.data_types.items().len();
-    let ambiguous = is_ambiguous(alloc, name_types, data_types, table, idents.len())?;
-    if ambiguous {
-        return Err(KindsError::Ambiguous);
-    }
-    let shapes = first_shapes(alloc, table, idents.len())?;
-    read_inhabited(alloc, sig, inhabitants, idents, shapes.as_slice())
+    let by = Declared {
+        name_types: sig.name_types.items().len(),
+        data_types: sig.data_types.items().len(),
+        inhabitants,
+    };
+    let reads = read_holes(alloc, by, table, idents.len())?;
+    read_inhabited(alloc, idents, reads.as_slice())
 }
 
 /// The kinds of identifiers, by the solution of their system.

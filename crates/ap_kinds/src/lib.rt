@@ -4,7 +4,6 @@
 //! solved. `specs/ItemKinds.antt` says which kinds type an item and what is found of them.
 #![tactic(auto)]
 
-mod closed;
 mod errors;
 mod goals;
 mod inside;
@@ -12,10 +11,10 @@ mod kinds;
 mod places;
 mod read_types;
 mod reading;
-mod shape_tests;
 mod shapes;
 mod sorts;
 mod systems;
+mod tables;
 mod terms;
 mod wants;
 

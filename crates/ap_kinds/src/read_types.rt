@@ -1,115 +1,178 @@
-//! Types that are read off closed shapes.
-//!
-//! A shape that solves equations can be as deep as these are long, on either side. So what stands round
-//! the part that is read next is kept as a list of layers, of which the first is outermost.
+//! What is read off the shapes of a table.
 
-ghost use Rattle.std.specs.Prelude.{◌≡◌, ◌++◌, ◌∷◌, [], IfOk};
-ghost use Rattle.ap_defs.specs.Types as simple;
-ghost use Rattle.ap_defs.specs.Types.{shape_of, type_of};
-ghost use Rattle.ap_kinds.specs.Reading.{sort_in_shape, read_type};
-ghost use Rattle.ap_kinds.specs.ReadTypes.{ReadsOn};
+ghost use Rattle.std.specs.Prelude.{◌≡◌, ℕ, Bool, IfOk};
+ghost use Rattle.ap_defs.specs.Types.{TypeShape, type_of, kind_of, hole, unit, names, base, pair, list, abs};
+ghost use Rattle.ap_kinds.specs.Reading.{read_kind};
+ghost use Rattle.ap_kinds.specs.ReadTypes.{IsRead, IsReadBy, sort_in_type, is_sort_type};
 
+use crate::kinds::IdentKind;
+use ap_defs::copies::copy_type;
+use ap_defs::goals::Kind;
 use ap_defs::memory::Memory;
-use ap_defs::terms::{Shape, Ty};
+use ap_defs::terms::Ty;
+use ap_types::inhabitants::{Inhabitants, is_base_inhabited};
 use std::alloc::Global;
+use std::sync::Arc;
 
-/// What stands round a part of a type: the part is the first of a pair, and the second one is that of a
-/// shape; or it is the second behind a type; or it is the elements of a list, or the body of an
-/// abstraction over a name type.
-#[derive(Drop)]
-pub(crate) enum Layer<'a> {
-    First(&'a Shape),
-    Second(Ty),
-    List,
-    Abs(u32),
+/// What a reader of shapes goes by: how many name types and data types are declared, and which data types are
+/// inhabited.
+#[derive(Clone, Copy)]
+pub(crate) struct Declared<'a> {
+    pub(crate) name_types: usize,
+    pub(crate) data_types: usize,
+    pub(crate) inhabitants: &'a Inhabitants,
 }
 
-/// What comes next within the layers: the type of a shape, or one that was made.
+/// What is read off a shape: the type that it is where it is closed; whether its name types and data types are
+/// declared, whether it is closed, and whether its type is inhabited.
 #[derive(Drop)]
-pub(crate) enum Next<'a> {
-    Read(&'a Shape),
-    Made(Ty),
+pub(crate) struct TypeRead {
+    pub(crate) ty: Ty,
+    pub(crate) declared: bool,
+    pub(crate) closed: bool,
+    pub(crate) inhabited: bool,
 }
 
-/// The sort of a shape that is a name type.
-pub(crate) fn sort_in_shape(t: &Shape) -> u32
-    ensures { result ≡ sort_in_shape (shape_of t.now) }
+/// What is read off a hole.
+pub(crate) fn read_open() -> TypeRead
+    ensures { (n m : ℕ) (p : ℕ → Bool) (x : ℕ) → IsRead n m p (hole x) result }
 {
-    match t {
-        Shape::Names(sort) => *sort,
+    TypeRead {
+        ty: Ty::Unit,
+        declared: true,
+        closed: false,
+        inhabited: true,
+    }
+}
+
+/// What is read off the type of one value.
+pub(crate) fn read_unit() -> TypeRead
+    ensures { (n m : ℕ) (p : ℕ → Bool) → IsRead n m p unit result }
+{
+    TypeRead {
+        ty: Ty::Unit,
+        declared: true,
+        closed: true,
+        inhabited: true,
+    }
+}
+
+/// What is read off a name type.
+pub(crate) fn read_names(by: Declared<'_>, sort: u32) -> TypeRead
+    ensures { IsReadBy by.entry (names sort) result }
+{
+    TypeRead {
+        ty: Ty::Names(sort),
+        declared: (sort as usize) < by.name_types,
+        closed: true,
+        inhabited: true,
+    }
+}
+
+/// What is read off a data type.
+pub(crate) fn read_base(by: Declared<'_>, data_type: u32) -> TypeRead
+    ensures { IsReadBy by.entry (base data_type) result }
+{
+    TypeRead {
+        ty: Ty::Base(data_type),
+        declared: (data_type as usize) < by.data_types,
+        closed: true,
+        inhabited: is_base_inhabited(by.inhabitants, data_type),
+    }
+}
+
+/// The same once more.
+pub(crate) fn copy_read(read: &TypeRead) -> Result<TypeRead, Memory>
+    ensures { IfOk result (λ r. (n m : ℕ) (p : ℕ → Bool) (t : TypeShape) →
+        IsRead n m p t read.now → IsRead n m p t r) }
+{
+    let ty = copy_type(&read.ty)?;
+    Ok(TypeRead {
+        ty,
+        declared: read.declared,
+        closed: read.closed,
+        inhabited: read.inhabited,
+    })
+}
+
+/// A part that types share.
+fn shared(alloc: Global, ty: &Ty) -> Result<Arc<Ty>, Memory>
+    ensures { IfOk result (λ s. type_of s.value ≡ type_of ty.now) }
+{
+    Ok(Arc::new(alloc, copy_type(ty)?)?)
+}
+
+/// What is read off a pair, by what is read off its parts.
+pub(crate) fn read_pair(
+    alloc: Global,
+    left: &TypeRead,
+    right: &TypeRead,
+) -> Result<TypeRead, Memory>
+    ensures { IfOk result (λ r. (n m : ℕ) (p : ℕ → Bool) (t u : TypeShape) →
+        IsRead n m p t left.now → IsRead n m p u right.now → IsRead n m p (pair t u) r) }
+{
+    let first = shared(alloc, &left.ty)?;
+    let second = shared(alloc, &right.ty)?;
+    Ok(TypeRead {
+        ty: Ty::Pair(first, second),
+        declared: left.declared && right.declared,
+        closed: left.closed && right.closed,
+        inhabited: left.inhabited && right.inhabited,
+    })
+}
+
+/// What is read off a list, by what is read off its elements.
+pub(crate) fn read_list(alloc: Global, element: &TypeRead) -> Result<TypeRead, Memory>
+    ensures { IfOk result (λ r. (n m : ℕ) (p : ℕ → Bool) (t : TypeShape) →
+        IsRead n m p t element.now → IsRead n m p (list t) r) }
+{
+    let part = shared(alloc, &element.ty)?;
+    Ok(TypeRead {
+        ty: Ty::List(part),
+        declared: element.declared,
+        closed: element.closed,
+        inhabited: true,
+    })
+}
+
+/// The sort of a type that is a name type.
+fn sort_in(ty: &Ty) -> u32
+    ensures { result ≡ sort_in_type (type_of ty.now) }
+{
+    match ty {
+        Ty::Names(sort) => *sort,
         _ => 0,
     }
 }
 
-/// A pair.
-fn pair_of(alloc: Global, left: Ty, right: Ty) -> Result<Ty, Memory>
-    ensures { IfOk result (λ t. type_of t ≡ simple.pair (type_of left) (type_of right)) }
+/// Whether a type is a name type.
+fn is_sort(ty: &Ty) -> bool
+    ensures { result ≡ is_sort_type (type_of ty.now) }
 {
-    let left = Box::new(alloc, left)?;
-    Ok(Ty::Pair(left, Box::new(alloc, right)?))
+    matches!(ty, Ty::Names(_))
 }
 
-/// Goes on to the first part of a shape, within one more layer, or makes the type of one without parts.
-fn go_down<'a>(layers: &mut Vec<Layer<'a>>, t: &'a Shape) -> Result<Next<'a>, Memory>
-    ensures { IfOk result (λ next.
-        ReadsOn layers.old.items (Next.Read t.entry) layers.new.items next) }
+/// What is read off an abstraction, by what is read off its parts.
+pub(crate) fn read_abs(alloc: Global, left: &TypeRead, body: &TypeRead) -> Result<TypeRead, Memory>
+    ensures { IfOk result (λ r. (n m : ℕ) (p : ℕ → Bool) (t u : TypeShape) →
+        IsRead n m p t left.now → IsRead n m p u body.now → IsRead n m p (abs t u) r) }
 {
-    match t {
-        Shape::Hole(_) => Ok(Next::Made(Ty::Unit)),
-        Shape::Unit => Ok(Next::Made(Ty::Unit)),
-        Shape::Names(sort) => Ok(Next::Made(Ty::Names(*sort))),
-        Shape::Base(data) => Ok(Next::Made(Ty::Base(*data))),
-        Shape::Pair(left, right) => {
-            layers.push(Layer::First(right))?;
-            Ok(Next::Read(left))
-        }
-        Shape::List(element) => {
-            layers.push(Layer::List)?;
-            Ok(Next::Read(element))
-        }
-        Shape::Abs(left, body) => {
-            layers.push(Layer::Abs(sort_in_shape(left)))?;
-            Ok(Next::Read(body))
-        }
-    }
+    let part = shared(alloc, &body.ty)?;
+    Ok(TypeRead {
+        ty: Ty::Abs(sort_in(&left.ty), part),
+        declared: left.declared && body.declared,
+        closed: is_sort(&left.ty) && body.closed,
+        inhabited: body.inhabited,
+    })
 }
 
-/// Puts a type that was made into the innermost layer, or goes on to the second part there.
-fn put_in<'a>(
-    alloc: Global,
-    layers: &mut Vec<Layer<'a>>,
-    layer: Layer<'a>,
-    made: Ty,
-) -> Result<Next<'a>, Memory>
-    ensures { IfOk result (λ next.
-        ReadsOn (layers.old.items ++ layer.entry ∷ []) (Next.Made made) layers.new.items next) }
+/// The kind of an identifier whose shape was read.
+pub(crate) fn kind_of_read(ident: IdentKind, read: &TypeRead) -> Result<Kind, Memory>
+    ensures { IfOk result (λ k. (n m : ℕ) (p : ℕ → Bool) (t : TypeShape) →
+        IsRead n m p t read.now → kind_of k ≡ read_kind ident t) }
 {
-    match layer {
-        Layer::First(right) => {
-            layers.push(Layer::Second(made))?;
-            Ok(Next::Read(right))
-        }
-        Layer::Second(left) => Ok(Next::Made(pair_of(alloc, left, made)?)),
-        Layer::List => Ok(Next::Made(Ty::List(Box::new(alloc, made)?))),
-        Layer::Abs(sort) => Ok(Next::Made(Ty::Abs(sort, Box::new(alloc, made)?))),
-    }
-}
-
-/// The type that a closed shape is.
-pub(crate) fn read_type(alloc: Global, t: &Shape) -> Result<Ty, Memory>
-    ensures { IfOk result (λ u. type_of u ≡ read_type (shape_of t.now)) }
-{
-    let mut layers = Vec::new(alloc);
-    let mut now = Next::Read(t);
-    'reading: loop {
-        match now {
-            Next::Read(part) => now = go_down(&mut layers, part)?,
-            Next::Made(made) => {
-                let Some(layer) = layers.pop() else {
-                    return Ok(made);
-                };
-                now = put_in(alloc, &mut layers, layer, made)?;
-            }
-        }
+    match ident {
+        IdentKind::Name => Ok(Kind::Name(sort_in(&read.ty))),
+        IdentKind::Var => Ok(Kind::Var(copy_type(&read.ty)?)),
     }
 }

@@ -19,7 +19,7 @@ pub enum TokenKind {
 }
 
 /// A token: its kind, its text, and where it stands.
-#[derive(Clone, Copy, PartialEq, Eq)]
+#[derive(Clone, Copy)]
 pub struct Token<'a> {
     pub kind: TokenKind,
     pub text: &'a str,
@@ -43,7 +43,7 @@ impl Token<'_> {
 }
 
 /// Why a text gives no tokens.
-#[derive(Clone, Copy, Debug, PartialEq, Eq)]
+#[derive(Clone, Copy)]
 pub enum LexError {
     /// The first place of the text at which nothing begins. Its item is 1 and the number of `.` tokens before
     /// it, its line 1 and the number of LFs before it, and its kind `NotUtf8` or `Character`.

@@ -28,7 +28,7 @@ fn copy_vars(alloc: Global, vars: &[(Var, Ty)]) -> Result<Vec<(Var, Ty)>, Memory
 {
     let mut copied = Vec::new(alloc);
     'copying: for (x, t) in vars {
-        copied.push((*x, copy_type(alloc, t)?))?;
+        copied.push((*x, copy_type(t)?))?;
     }
     Ok(copied)
 }

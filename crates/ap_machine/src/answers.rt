@@ -73,7 +73,7 @@ fn typed(alloc: Global, store: &Store<'_>, x: Var) -> Result<Option<(Var, Ty)>, 
     if x.num < store.next() {
         match store.kind(x.num) {
             Kind::Var(t) => {
-                let t = copy_type(alloc, t)?;
+                let t = copy_type(t)?;
                 Ok(Some((x, t)))
             }
             Kind::Name(_) => Ok(None),

@@ -9,7 +9,7 @@ use ap_unparse::writing::goal_text;
 use std::alloc::{AllocError, Global};
 
 /// What became of a goal.
-#[derive(Clone, Copy, PartialEq, Eq)]
+#[derive(Clone, Copy)]
 pub enum Outcome {
     /// It was not read as a query.
     NotRead,

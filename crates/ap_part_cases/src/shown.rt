@@ -12,7 +12,7 @@ use ap_trees::{Item, ReadError, Tree, TypeTree, symbols_of, whole_term, whole_ty
 use std::alloc::{AllocError, Global};
 
 /// What is shown of a text.
-#[derive(Clone, Copy, Debug)]
+#[derive(Clone, Copy)]
 pub enum Kind {
     /// Its tokens.
     Tokens,

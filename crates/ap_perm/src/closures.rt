@@ -89,6 +89,19 @@ impl<'a> Closure<'a> {
         })
     }
 
+    /// A copy on which more swappings act, after its own ones. It shares the term.
+    pub fn copy_moved_by(&self, alloc: Global, p: &[Swap]) -> Result<Closure<'a>, Memory>
+        ensures { IfOk result (λ d. closure_term d ≡ act_term p.now (closure_term self.now)) }
+    {
+        let swaps = joined(alloc, p, &self.swaps)?;
+        Ok(Closure {
+            swaps,
+            base: self.base,
+            end: self.end,
+            term: self.term,
+        })
+    }
+
     /// The closure on which more swappings act, after its own ones.
     pub fn moved_by(self, alloc: Global, p: &[Swap]) -> Result<Closure<'a>, Memory>
         ensures { IfOk result (λ c. closure_term c ≡ act_term p.now (closure_term self.entry)) }

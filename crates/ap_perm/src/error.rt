@@ -6,7 +6,7 @@ ghost use Rattle.ap_perm.specs.declared.error.FreshError.TheVariants.{Memory as 
 use std::alloc::{AllocError, AllocFailed};
 
 /// The name is free in the term, so that it is never fresh for it, or memory is wanting.
-#[derive(Clone, Copy, Debug, PartialEq, Eq)]
+#[derive(Clone, Copy)]
 pub enum FreshError {
     Refuted,
     Memory,

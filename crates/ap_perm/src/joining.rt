@@ -18,14 +18,12 @@ pub fn copied(alloc: Global, p: &[Swap]) -> Result<Vec<Swap>, Memory>
     Ok(copied)
 }
 
-/// One list of swappings, and then the other.
+/// One list of swappings, and then the other. Memory is asked for once.
 pub fn joined(alloc: Global, p: &[Swap], q: &[Swap]) -> Result<Vec<Swap>, Memory>
     ensures { IfOk result (λ r. r.items ≡ p.now ++ q.now) }
 {
-    let mut joined = copied(alloc, p)?;
-    if q.is_empty() {
-        return Ok(joined);
-    }
+    let mut joined = Vec::with_capacity(alloc, p.len().saturating_add(q.len()))?;
+    joined.extend_from_slice(p)?;
     joined.extend_from_slice(q)?;
     Ok(joined)
 }

@@ -6,7 +6,7 @@ ghost use Rattle.ap_replay.specs.declared.error.ReplayError.TheVariants as error
 use ap_defs::memory::Memory;
 
 /// The search of the problem does not have the path, or memory is wanting.
-#[derive(Clone, Copy, Debug, PartialEq, Eq)]
+#[derive(Clone, Copy)]
 pub enum ReplayError {
     NotABranch,
     Memory,

@@ -7,7 +7,7 @@ use ap_defs::faults::NameFault;
 use ap_defs::memory::Memory;
 
 /// The first fault of a program, or want of memory.
-#[derive(Debug, Drop)]
+#[derive(Drop)]
 pub enum NameError {
     Fault(NameFault),
     Memory,

@@ -41,57 +41,68 @@ pub struct Head<'a> {
 
 /// Whether the variable's type can't hold names of the table's sort.
 #[tactic(auto, using(crate::proofs::KindLemmas::kind_past, crate::proofs::KindLemmas::kind_there))]
-fn is_barred(table: &Holding, locals: &[Local], x: Var) -> bool
-    ensures { result
+fn is_barred(alloc: Global, table: &Holding, locals: &[Local], x: Var) -> Result<bool, Memory>
+    ensures { IfOk result (λ b. b
         ≡ bars table.now.sort (marked table.now.table.items) (kind_at
-        (kinds_of (locals_of locals.now)) x.num) }
+        (kinds_of (locals_of locals.now)) x.num)) }
 {
     let place = x.num as usize;
     if place >= locals.len() {
-        return false;
+        return Ok(false);
     }
     match &locals[place].kind {
-        Kind::Name(_) => false,
-        Kind::Var(t) => !holds(table, t),
+        Kind::Name(_) => Ok(false),
+        Kind::Var(t) => Ok(!holds(alloc, table, t)?),
     }
 }
 
 /// Whether a condition is known where the clause is used with the free name `a`.
 fn is_known_of(
+    alloc: Global,
     facts: &HashSet<Fact>,
     table: &Holding,
     locals: &[Local],
     a: Name,
     name: Name,
     x: Var,
-) -> bool
-    ensures { result
+) -> Result<bool, Memory>
+    ensures { IfOk result (λ b. b
         ≡ is_known facts.now.keys table.now.sort (marked table.now.table.items)
-        (kinds_of (locals_of locals.now)) a name x }
+        (kinds_of (locals_of locals.now)) a name x) }
 {
     let fact = Fact {
         left: a,
         name,
         var: x,
     };
-    has(facts, fact) || is_barred(table, locals, x)
+    if has(facts, fact) {
+        return Ok(true);
+    }
+    is_barred(alloc, table, locals, x)
 }
 
 /// Whether the name is fresh for the term by what is known.
 #[tactic(auto, unfolding(ap_defs::specs::Permutations::name_eq))]
-fn is_fresh(facts: &HashSet<Fact>, table: &Holding, locals: &[Local], a: Name, t: &Term) -> bool
-    ensures { result
+fn is_fresh(
+    alloc: Global,
+    facts: &HashSet<Fact>,
+    table: &Holding,
+    locals: &[Local],
+    a: Name,
+    t: &Term,
+) -> Result<bool, Memory>
+    ensures { IfOk result (λ b. b
         ≡ fresh_by (is_known facts.now.keys table.now.sort (marked table.now.table.items)
-        (kinds_of (locals_of locals.now)) a) a (term_of t.now) }
+        (kinds_of (locals_of locals.now)) a) a (term_of t.now)) }
 {
     let mut rest = t;
     loop {
         match rest {
-            Term::Unit => return true,
-            Term::Name(b) => return a != *b,
+            Term::Unit => return Ok(true),
+            Term::Name(b) => return Ok(a != *b),
             Term::Pair(left, right) => {
-                if !is_fresh(facts, table, locals, a, left) {
-                    return false;
+                if !is_fresh(alloc, facts, table, locals, a, left)? {
+                    return Ok(false);
                 }
                 rest = right;
             }
@@ -102,30 +113,37 @@ fn is_fresh(facts: &HashSet<Fact>, table: &Holding, locals: &[Local], a: Name, t
                     num: *num,
                 };
                 if a == b {
-                    return true;
+                    return Ok(true);
                 }
                 rest = body;
             }
             Term::Susp(swaps, x) => {
                 let name = preimage(swaps.items(), a);
-                return is_known_of(facts, table, locals, a, name, *x);
+                return is_known_of(alloc, facts, table, locals, a, name, *x);
             }
         }
     }
 }
 
 /// Whether the name is fresh for each of the terms by what is known.
-fn are_fresh(facts: &HashSet<Fact>, table: &Holding, locals: &[Local], a: Name, ts: &[Term]) -> bool
-    ensures { result
+fn are_fresh(
+    alloc: Global,
+    facts: &HashSet<Fact>,
+    table: &Holding,
+    locals: &[Local],
+    a: Name,
+    ts: &[Term],
+) -> Result<bool, Memory>
+    ensures { IfOk result (λ b. b
         ≡ fresh_by_each (is_known facts.now.keys table.now.sort (marked table.now.table.items)
-        (kinds_of (locals_of locals.now)) a) a (map term_of ts.now) }
+        (kinds_of (locals_of locals.now)) a) a (map term_of ts.now)) }
 {
     for t in ts {
-        if !is_fresh(facts, table, locals, a, t) {
-            return false;
+        if !is_fresh(alloc, facts, table, locals, a, t)? {
+            return Ok(false);
         }
     }
-    true
+    Ok(true)
 }
 
 /// Whether the name is fresh for the head.
@@ -145,10 +163,10 @@ fn is_fresh_for_head(
         a) }
 {
     match table_of(setting.sig, setting.tables, a.sort) {
-        Some(table) => Ok(are_fresh(facts, table, head.locals, a, head.args)),
+        Some(table) => are_fresh(alloc, facts, table, head.locals, a, head.args),
         None => {
             let table = types_holding(alloc, setting.sig, a.sort)?;
-            Ok(are_fresh(facts, &table, head.locals, a, head.args))
+            are_fresh(alloc, facts, &table, head.locals, a, head.args)
         }
     }
 }

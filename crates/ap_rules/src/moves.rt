@@ -232,9 +232,8 @@ fn exchanged<'a>(
         left: a.num,
         right: b.num,
     }];
-    let body = u.copy(alloc)?;
-    let right = u.moved_by(alloc, &swap)?;
-    Ok(Move::Swapped(ClosurePair { left: t, right }, a, body))
+    let right = u.copy_moved_by(alloc, &swap)?;
+    Ok(Move::Swapped(ClosurePair { left: t, right }, a, u))
 }
 
 /// The rule for two abstractions.

@@ -17,6 +17,7 @@ use ap_defs::spines::{TypeLayer, close_type};
 use ap_defs::terms::Ty;
 use ap_trees::TypeTree;
 use std::alloc::Global;
+use std::sync::Arc;
 
 /// The abstraction over a name type. Over anything else it is a fault, and its type never counts.
 fn abstraction_over(alloc: Global, over: Option<Ty>, body: Ty) -> Result<Ty, Memory>
@@ -24,7 +25,7 @@ fn abstraction_over(alloc: Global, over: Option<Ty>, body: Ty) -> Result<Ty, Mem
         ≡ spec.abstraction_over (option_map type_of over) (type_of body)) }
 {
     match &over {
-        Some(Ty::Names(sort)) => Ok(Ty::Abs(*sort, Box::new(alloc, body)?)),
+        Some(Ty::Names(sort)) => Ok(Ty::Abs(*sort, Arc::new(alloc, body)?)),
         _ => Ok(Ty::Unit),
     }
 }

@@ -43,7 +43,7 @@ fn copy_vars(alloc: Global, vars: &[(Var, Ty)]) -> Result<Vec<(Var, Ty)>, Memory
 {
     let mut copied = Vec::new(alloc);
     for typed in vars {
-        copied.push((typed.0, copy_type(alloc, &typed.1)?))?;
+        copied.push((typed.0, copy_type(&typed.1)?))?;
     }
     Ok(copied)
 }

@@ -16,7 +16,7 @@ use ap_text::{TextError, program_of_text};
 use std::alloc::Global;
 
 /// How loading a text ended.
-#[derive(Clone, Copy, PartialEq, Eq)]
+#[derive(Clone, Copy)]
 pub enum Outcome {
     /// The text stands in place of what was loaded.
     Loaded,

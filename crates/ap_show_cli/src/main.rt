@@ -1,16 +1,15 @@
 //! The program that shows derivations: from a bundle on standard input to a document on standard output.
 #![tactic(auto)]
 
-mod input;
-mod output;
 mod saying;
 mod words;
 
+use ap_defs::memory::Memory;
 use ap_io::{StdSink, StdSource};
-use ap_report::Status;
+use ap_report::{Report, Status};
+use ap_run::{ReadError, line, put, read_whole};
 use ap_show::show_bytes;
-use input::{ReadError, read_whole};
-use output::write_whole;
+use ap_steps::pages::Format;
 use saying::say;
 use std::alloc::AllocError;
 use std::process::ExitCode;
@@ -32,36 +31,32 @@ fn given_words(rt: &(impl Env + AllocGlobal)) -> Result<Vec<String>, AllocError>
     }
 }
 
-/// Writes a report to standard output.
-fn put<R: AllocGlobal + Print>(rt: &R, bytes: &[u8], status: Status) -> Status {
-    let mut sink = StdSink::new(io::writer(rt));
-    match write_whole(&mut sink, bytes) {
-        Ok(()) => status,
-        Err(_) => Status::Write,
-    }
-}
-
-/// Shows what standard input holds.
-fn show<R: AllocGlobal + Input + Print>(rt: &R, format: ap_steps::pages::Format) -> Status {
+/// The report on what standard input holds, shown in a format.
+fn shown<R: AllocGlobal + Input>(rt: &R, format: Format) -> Result<Report, Memory> {
     let alloc = rt.alloc();
     let mut source = StdSource::new(rt.reader());
     match read_whole(alloc, &mut source) {
-        Ok(bytes) => match show_bytes(alloc, format, bytes.as_slice()) {
-            Ok(report) => put(rt, report.bytes.items(), report.status),
-            Err(_) => Status::Memory,
-        },
-        Err(ReadError::Failed) => put(rt, b"% read fault\n", Status::Read),
-        Err(ReadError::TooLarge) => put(rt, b"% text too large\n", Status::TooLarge),
-        Err(ReadError::Memory) => Status::Memory,
+        Ok(bytes) => show_bytes(alloc, format, bytes.as_slice()),
+        Err(ReadError::Failed) => line(alloc, "% read fault\n", Status::Read),
+        Err(ReadError::TooLarge) => line(alloc, "% text too large\n", Status::TooLarge),
+        Err(ReadError::Memory) => Err(Memory),
     }
 }
 
-/// Shows standard input in the format that the words ask for.
+/// The report that the words ask for.
+fn report<R: AllocGlobal + Input>(rt: &R, words: &[String]) -> Result<Report, Memory> {
+    match format_asked(rt.alloc(), words)? {
+        Some(format) => shown(rt, format),
+        None => line(rt.alloc(), "% usage fault\n", Status::Usage),
+    }
+}
+
+/// Shows standard input in the format that the words ask for, and says on standard error what helps.
 fn run<R: AllocGlobal + Input + Print + Eprint>(rt: &R, words: &[String]) -> Status {
-    let status = match format_asked(rt.alloc(), words) {
-        Ok(Some(format)) => show(rt, format),
-        Ok(None) => put(rt, b"% usage fault\n", Status::Usage),
-        Err(_) => Status::Memory,
+    let mut sink = StdSink::new(io::writer(rt));
+    let status = match report(rt, words) {
+        Ok(report) => put(&mut sink, &report),
+        Err(Memory) => Status::Memory,
     };
     say(rt, status);
     status

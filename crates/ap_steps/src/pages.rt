@@ -11,7 +11,7 @@ use ap_defs::memory::Memory;
 use std::alloc::Global;
 
 /// A format of documents: plain text, LaTeX or HTML.
-#[derive(Clone, Copy, PartialEq, Eq)]
+#[derive(Clone, Copy)]
 pub enum Format {
     Text,
     Latex,

@@ -5,7 +5,7 @@ use ap_defs::faults::SyntaxFault;
 use std::alloc::{AllocError, AllocFailed};
 
 /// Why tokens give no items.
-#[derive(Clone, Copy, Debug, PartialEq, Eq)]
+#[derive(Clone, Copy)]
 pub enum SynError {
     /// The first faulty item. Its line is that of its first token, and its kind `Unended`, else `TooDeep`,
     /// else `Grammar`.

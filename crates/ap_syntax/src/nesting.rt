@@ -10,7 +10,7 @@ use std::alloc::{AllocError, Global};
 const MOST_LEVELS: usize = 256;
 
 /// What is open: a bracket, or the body of `\\`.
-#[derive(Clone, Copy, PartialEq, Eq)]
+#[derive(Clone, Copy)]
 pub enum Level {
     Round,
     Square,

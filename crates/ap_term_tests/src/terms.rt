@@ -5,6 +5,7 @@ use ap_defs::lists::{Swaps, Text};
 use ap_defs::memory::Memory;
 use ap_defs::terms::{Ground, Name, Swap, Term, Ty, Var};
 use std::alloc::Global;
+use std::sync::Arc;
 
 const A: Name = Name { sort: 0, num: 0 };
 
@@ -88,12 +89,12 @@ fn is_copied(term: &Term) -> bool {
 }
 
 fn list(alloc: Global) -> Result<Ty, Memory> {
-    let element = Ty::Abs(1, Box::new(alloc, Ty::Names(2))?);
-    Ok(Ty::List(Box::new(alloc, element)?))
+    let element = Ty::Abs(1, Arc::new(alloc, Ty::Names(2))?);
+    Ok(Ty::List(Arc::new(alloc, element)?))
 }
 
 fn copied_kind(alloc: Global) -> Result<Kind, Memory> {
-    copy_kind(alloc, &Kind::Var(copy_type(alloc, &list(alloc)?)?))
+    copy_kind(&Kind::Var(copy_type(&list(alloc)?)?))
 }
 
 fn is_element(ty: &Ty) -> bool {

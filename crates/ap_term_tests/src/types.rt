@@ -9,13 +9,14 @@ use ap_types::holding::{holds, types_holding};
 use ap_types::inhabitants::{Inhabitants, declare, is_inhabited, no_inhabitants};
 use ap_types::solved::value_of;
 use std::alloc::Global;
+use std::sync::Arc;
 
 fn list(alloc: Global, of: Ty) -> Result<Ty, Memory> {
-    Ok(Ty::List(Box::new(alloc, of)?))
+    Ok(Ty::List(Arc::new(alloc, of)?))
 }
 
 fn abstraction(alloc: Global, sort: u32, body: Ty) -> Result<Ty, Memory> {
-    Ok(Ty::Abs(sort, Box::new(alloc, body)?))
+    Ok(Ty::Abs(sort, Arc::new(alloc, body)?))
 }
 
 fn constructor(alloc: Global, args: Vec<Ty>, of: u32) -> Constructor {
@@ -106,7 +107,7 @@ fn lambda_terms_may_hold_their_names(rt: HostRuntime) {
 /// Whether a type may hold names of the first sort, for the lambda terms, by a table.
 fn is_in_table(alloc: Global, ty: &Ty) -> Result<bool, Memory> {
     let table = types_holding(alloc, &lambda_terms(alloc)?, 0)?;
-    Ok(holds(&table, ty))
+    holds(alloc, &table, ty)
 }
 
 #[test]

@@ -6,7 +6,7 @@ use ap_defs::memory::Memory;
 use ap_restrict::errors::NameError;
 
 /// Why a text has no program.
-#[derive(Debug, Drop)]
+#[derive(Drop)]
 pub enum TextError {
     /// The text has a fault: its first one.
     Fault(Fault),

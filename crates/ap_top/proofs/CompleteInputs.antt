@@ -2,7 +2,8 @@
 use Rattle.std.proofs.Common.{ℕ, List, Option, Some, None}
 use Rattle.ap_report.proofs.CompleteTexts.{complete_text}
 use Rattle.ap_bundle_commands.proofs.CoveredProofs.{covered_proofs}
-use Rattle.ap_top.specs.Report.{IsCompleteFor, Broken, AreAnswersComplete, Input, Over, Whole}
+use Rattle.ap_run.specs.Inputs.{Broken, Input, Over, Whole}
+use Rattle.ap_top.specs.Report.{AreAnswersComplete, IsCompleteFor}
 use Rattle.ap_words.specs.declared.Asked.{Asked}
 use Rattle.ap_words.specs.declared.Asked.TheVariants as asked
 use Rattle.ap_words.specs.Words.{asked_of}

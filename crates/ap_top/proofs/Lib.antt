@@ -1,4 +1,4 @@
 mod Reports
-mod Wrote
 mod SoundInputs
 mod CompleteInputs
+mod RunLemmas

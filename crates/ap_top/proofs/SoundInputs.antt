@@ -4,7 +4,8 @@ use Rattle.ap_report.proofs.SoundTexts.{sound_text}
 use Rattle.ap_text_commands.proofs.SoundProofs.{sound_proofs}
 use Rattle.ap_bundle_commands.proofs.SoundVerdicts.{sound_verdicts}
 use Rattle.ap_examine.proofs.RefutingLemmas.{text_sound}
-use Rattle.ap_top.specs.Report.{IsSoundFor, Broken, AreAnswersSound, Input, Over, Whole}
+use Rattle.ap_run.specs.Inputs.{Broken, Input, Over, Whole}
+use Rattle.ap_top.specs.Report.{AreAnswersSound, IsSoundFor}
 use Rattle.ap_words.specs.declared.Asked.{Asked}
 use Rattle.ap_words.specs.declared.Asked.TheVariants as asked
 use Rattle.ap_words.specs.Words.{asked_of}

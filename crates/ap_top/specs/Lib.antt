@@ -1,2 +1,2 @@
+pub mod Laws
 pub mod Report
-pub mod Run

@@ -1,11 +1,11 @@
 -- The report: what is written for the words and the input, and the status.
 use Rattle.std.specs.Prelude.{◌≡◌, ℕ, Bool, true, false, List, Option, None, Some, codes}
 use Rattle.ap_report.specs.declared.report.Report.{Report}
-use Rattle.ap_report.specs.declared.status.Status.{Status}
 use Rattle.ap_report.specs.declared.status.Status.TheVariants as status
 use Rattle.ap_report.specs.CompleteTexts.{IsCompleteText}
 use Rattle.ap_report.specs.SoundAnswers.{IsSoundText}
 use Rattle.ap_report.specs.TextReport.{IsTextReport, run_report}
+use Rattle.ap_run.specs.Inputs.{Input, IsReportOn, Whole, line}
 use Rattle.ap_text_commands.specs.ProveReports.{HasSoundProofs, IsProveReport}
 use Rattle.ap_bundle_commands.specs.CheckReports.{HasSoundVerdicts, IsCheckReport}
 use Rattle.ap_bundle_commands.specs.ConvertReports.{IsConvertReport}
@@ -18,27 +18,11 @@ use Rattle.ap_words.specs.declared.Asked.{Asked}
 use Rattle.ap_words.specs.declared.Asked.TheVariants as asked
 use Rattle.ap_words.specs.Words.{asked_of}
 
--- what reading gave: all bytes that were left, a byte past the limit, or a failure
-pub data Input : Type 0 where
-  Whole : List ℕ → Input
-  Over : Input
-  Broken : Input
-
 -- whether the input is read: not where the words are refused, nor for `work`, which makes a text itself
 abbrev pub is_reading : Option Asked → Bool
 is_reading None = false
 is_reading (Some (asked.Work seed size workers)) = false
 is_reading (Some other) = true
-
--- one line is all that is written
-abbrev pub line : List ℕ → Status → Report
-line text status = record { bytes = text; status = status }
-
--- the report on an input, of a command with this report on the bytes
-abbrev pub IsReportOn : (List ℕ → Report → Type 0) → Input → Report → Type 0
-IsReportOn IsReportOnText (Whole text) r = IsReportOnText text r
-IsReportOn IsReportOnText Over r = r ≡ line (codes "% text too large\n") status.TooLarge
-IsReportOn IsReportOnText Broken r = r ≡ line (codes "% read fault\n") status.Read
 
 -- the report of what is asked for, command by command
 abbrev pub IsReportFor : Asked → Input → Report → Type 0
@@ -71,10 +55,6 @@ IsSoundFor _ _ = Unit {0}
 
 abbrev pub AreAnswersSound : List (List ℕ) → Input → Type 0
 AreAnswersSound words input = IsSoundFor (asked_of words) input
-
--- there is no other
-abbrev pub IsOnlyReport : (Report → Type 0) → Report → Type 0
-IsOnlyReport P r = P r × ((s : Report) → P s → s ≡ r)
 
 -- and complete
 abbrev pub IsCompleteFor : Option Asked → Input → Type 0

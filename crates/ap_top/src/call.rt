@@ -2,15 +2,15 @@
 ghost use Rattle.std.specs.Prelude.{◌≡◌, ◌≢◌, IfOk, false, map, string_bytes, true};
 ghost use Rattle.ap_report.specs.declared.report.Report.{Report};
 ghost use Rattle.ap_words.specs.Words.{asked_of};
-ghost use Rattle.ap_top.specs.Report.{Input, IsTheReport, is_reading};
-ghost use Rattle.ap_top.specs.Run.{IsPut, IsRead, IsUnwritten, IsReportWritten};
+ghost use Rattle.ap_run.specs.Inputs.{Input};
+ghost use Rattle.ap_run.specs.Writing.{IsRead, IsUnwritten, IsReportWritten};
+ghost use Rattle.ap_top.specs.Report.{IsTheReport, is_reading};
 
 use crate::commands::report_of;
-use crate::lines::line;
-use crate::writing::write_whole;
 use ap_defs::memory::Memory;
-use ap_io::{Failed, Gate, Sink, Source};
+use ap_io::{Gate, Sink, Source};
 use ap_report::{Report, Status};
+use ap_run::{line, put};
 use std::alloc::Global;
 use std::sync::Wait;
 use std::thread::Threads;
@@ -35,21 +35,6 @@ fn report<R: Threads + Wait + Sync, S: Source, G: Gate>(
     match ap_words::read(alloc, words)? {
         Some(asked) => report_of(rt, alloc, gate, asked, source),
         None => line(alloc, "% usage fault\n", Status::Usage),
-    }
-}
-
-/// Writes a report to the sink, and tells the status with which this ends. It takes no memory.
-fn put<K: Sink>(sink: &mut K, report: &Report) -> Status
-    ensures { IsPut (record {
-      bytes = K.held sink.old;
-      bytes' = K.held sink.new;
-      faults = K.faults sink.old;
-      faults' = K.faults sink.new;
-    }) report.now result }
-{
-    match write_whole(sink, report.bytes.items()) {
-        Ok(()) => report.status,
-        Err(Failed) => Status::Write,
     }
 }
 

@@ -1,8 +1,9 @@
 // The commands, each with a module of its own.
 ghost use Rattle.std.specs.Prelude.{◌≡◌, IfOk, Some, false, true};
 ghost use Rattle.ap_report.specs.declared.report.Report.{Report};
-ghost use Rattle.ap_top.specs.Report.{Input, IsOnlyReport, IsReportFor, is_reading};
-ghost use Rattle.ap_top.specs.Run.{IsRead};
+ghost use Rattle.ap_run.specs.Inputs.{Input, IsOnlyReport};
+ghost use Rattle.ap_run.specs.Writing.{IsRead};
+ghost use Rattle.ap_top.specs.Report.{IsReportFor, is_reading};
 
 mod check;
 mod convert;
@@ -10,11 +11,11 @@ mod count;
 mod cover;
 mod examine;
 mod prove;
-mod run;
 
 use ap_defs::memory::Memory;
 use ap_io::{Gate, Source};
 use ap_report::Report;
+use ap_run::report_run;
 use ap_text_commands::report_work;
 use ap_words::Asked;
 use std::alloc::Global;
@@ -40,7 +41,7 @@ pub(crate) fn report_of<R: Threads + Wait + Sync, S: Source, G: Gate>(
             depth,
             workers,
             limit,
-        } => run::report(rt, alloc, gate, depth, workers, limit, source),
+        } => report_run(rt, alloc, gate, depth, workers, limit, source),
         Asked::Prove {
             depth,
             workers,

@@ -8,9 +8,7 @@
 
 mod call;
 mod commands;
-mod lines;
-mod reading;
-mod writing;
+pub mod laws;
 
 pub use ap_report::Status;
 pub use call::top;

@@ -9,7 +9,7 @@ use ap_kinds::KindsError;
 use std::alloc::{AllocError, AllocFailed};
 
 /// Why a text has no typed program.
-#[derive(Clone, Copy, Debug, PartialEq, Eq)]
+#[derive(Clone, Copy)]
 pub enum TypeError {
     /// The first item that isn't well typed: its number and line, and the least kind of its faults.
     Fault(TypeFault),
@@ -28,7 +28,7 @@ impl From<AllocError> for TypeError {
 }
 
 /// Why an item makes nothing.
-#[derive(Clone, Copy, PartialEq, Eq)]
+#[derive(Clone, Copy)]
 pub enum Refusal {
     /// The least kind of its faults.
     Kind(TypeKind),

@@ -13,8 +13,10 @@ pub mod PartLemmas
 pub mod PlainLemmas
 pub mod PartTests
 pub mod InhabitedParts
+pub mod BarredParts
 pub mod JoinLemmas
 pub mod WalkLemmas
+pub mod OrderLemmas
 pub mod WritingLemmas
 pub mod SettledLemmas
 pub mod ChoiceLemmas

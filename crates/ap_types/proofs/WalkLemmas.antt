@@ -1,7 +1,7 @@
 -- Walks over tables.
-use Rattle.std.proofs.Common.{◌≡◌, ◌<◌, ◌≤◌, ◌+◌, ◌*◌, ◌⊎◌, ◌∙◌, ℕ, zero, suc, true, false, List, [], ◌∷◌, ◌++◌, length, set, replicate, refl, sym, ap, inl, inr, subst, arith, length-append, mul-le-mul}
+use Rattle.std.proofs.Common.{◌≡◌, ◌<◌, ◌≤◌, ◌+◌, ◌*◌, ◌⊎◌, ◌∙◌, ℕ, zero, suc, true, false, List, [], ◌∷◌, ◌++◌, length, set, replicate, get_or, refl, sym, ap, inl, inr, subst, arith, length-append, mul-le-mul}
 use Rattle.std.proofs.lemmas.Bool.Decides.{eqb_tells}
-use Rattle.std.proofs.lemmas.List.{get_or-set_same, get_or-set_other, length-replicate}
+use Rattle.std.proofs.lemmas.List.{get_or-set_same, get_or-set_other, get_or_append_left, get_or_push, length-replicate}
 use Rattle.ap_defs.specs.Types.{TypeShape, hole, unit, names, base, pair, list, abs}
 use Rattle.ap_types.specs.declared.walking.Mark.{Mark}
 use Rattle.ap_types.specs.declared.walking.Mark.TheVariants as marks
@@ -136,10 +136,10 @@ cycle_never ts xs x c h b p q s f k =
     omega arith
 
 -- Marks.
-mark_same : (ms : List Mark) (x : ℕ) (m : Mark) → x < length ms → walk_mark_at (set ms x m) x ≡ m
+pub mark_same : (ms : List Mark) (x : ℕ) (m : Mark) → x < length ms → walk_mark_at (set ms x m) x ≡ m
 mark_same ms x m l = get_or-set_same ms x m marks.New l
 
-mark_other : (ms : List Mark) (x y : ℕ) (m : Mark) → (y ≡ x → ⊥) → walk_mark_at (set ms x m) y ≡ walk_mark_at ms y
+pub mark_other : (ms : List Mark) (x y : ℕ) (m : Mark) → (y ≡ x → ⊥) → walk_mark_at (set ms x m) y ≡ walk_mark_at ms y
 mark_other ms x y m d = get_or-set_other ms x y m marks.New d
 
 length_marks : (ms : List Mark) (x : ℕ) (m : Mark) → length (set ms x m) ≡ length ms
@@ -162,17 +162,17 @@ is_new_mark marks.New h = refl
 is_new_mark marks.Entered h = cc
 is_new_mark (marks.Left k) h = cc
 
-left_mark : (m : Mark) → is_left m ≡ true → (k : ℕ) × (m ≡ marks.Left k)
+pub left_mark : (m : Mark) → is_left m ≡ true → (k : ℕ) × (m ≡ marks.Left k)
 left_mark marks.New h = cc
 left_mark marks.Entered h = cc
 left_mark (marks.Left k) h = (k, refl)
 
 -- A step along a path.
-module _ (ts : List TypeShape) (ms : List Mark) (left : ℕ) (front : List ℕ) (last : ℕ) (walk : IsWalk ts ms left (front ++ last ∷ [])) where
+module _ (ts : List TypeShape) (ms : List Mark) (order : List ℕ) (front : List ℕ) (last : ℕ) (walk : IsWalk ts ms order (front ++ last ∷ [])) where
   pub last_within : last < length ts
   last_within = (below_front (length ts) front last walk.within).1
 
-  pub passes_left : is_left (walk_mark_at ms last) ≡ true → PassesAlong ts ms (front ++ last ∷ []) ms left front
+  pub passes_left : is_left (walk_mark_at ms last) ≡ true → PassesAlong ts ms (front ++ last ∷ []) ms order front
   passes_left h = record {
     walk = record {
       as_long = walk.as_long;
@@ -182,7 +182,8 @@ module _ (ts : List TypeShape) (ms : List Mark) (left : ℕ) (front : List ℕ) 
         | inl i ↦ let j : is_left (walk_mark_at ms last) ≡ false = subst (λ y. is_left (walk_mark_at ms y) ≡ false) i (ap is_left e) in cc
         | inr s ↦ s
       ];
-      below = walk.below;
+      marked = walk.marked;
+      placed = walk.placed;
       ordered = walk.ordered;
       counted = walk.counted;
     };
@@ -194,13 +195,13 @@ module _ (ts : List TypeShape) (ms : List Mark) (left : ℕ) (front : List ℕ) 
   -- the last place is left, after its parts
   module _ (old : is_left (walk_mark_at ms last) ≡ false) (within : last < length ms) where
     abbrev pub after_leave : List Mark
-    after_leave = set ms last (marks.Left left)
+    after_leave = set ms last (marks.Left (length order))
 
-    here : walk_mark_at after_leave last ≡ marks.Left left
-    here = mark_same ms last (marks.Left left) within
+    here : walk_mark_at after_leave last ≡ marks.Left (length order)
+    here = mark_same ms last (marks.Left (length order)) within
 
     there : (x : ℕ) → (x ≡ last → ⊥) → walk_mark_at after_leave x ≡ walk_mark_at ms x
-    there x d = mark_other ms last x (marks.Left left) d
+    there x d = mark_other ms last x (marks.Left (length order)) d
 
     not_last : (x : ℕ) → is_left (walk_mark_at ms x) ≡ true → x ≡ last → ⊥
     not_last x e i = let j : is_left (walk_mark_at ms last) ≡ true = subst (λ y. is_left (walk_mark_at ms y) ≡ true) i e in cc
@@ -208,18 +209,19 @@ module _ (ts : List TypeShape) (ms : List Mark) (left : ℕ) (front : List ℕ) 
     stay_left : StayLeft ms after_leave
     stay_left x e = ap is_left (there x (not_last x e)) ∙ e
 
-    pub room : left < length ms
+    room : length order < length ms
     room =
         let c = count_less (λ x. is_left (walk_mark_at ms x)) (λ x. true) (length ms) (λ x l e. refl) last within old refl in
         let m = count_most (λ x. true) (length ms) in
         let k = walk.counted in
         omega arith
 
-    counted_more : left + 1 ≤ count_below (λ x. is_left (walk_mark_at after_leave x)) (length after_leave)
+    counted_more : length (order ++ last ∷ []) ≤ count_below (λ x. is_left (walk_mark_at after_leave x)) (length after_leave)
     counted_more =
         let c = count_less (λ x. is_left (walk_mark_at ms x)) (λ x. is_left (walk_mark_at after_leave x)) (length ms) (λ x l e. stay_left x e) last within old (ap is_left here) in
         let k = walk.counted in
-        rw (length_marks ms last (marks.Left left)) (omega arith)
+        let long = length-append order (last ∷ []) in
+        rw (length_marks ms last (marks.Left (length order))) (omega arith)
 
     new_before : (x : ℕ) → is_unvisited (walk_mark_at after_leave x) ≡ true → is_unvisited (walk_mark_at ms x) ≡ true
     new_before x e =
@@ -234,35 +236,57 @@ module _ (ts : List TypeShape) (ms : List Mark) (left : ℕ) (front : List ℕ) 
     no_more_new : new_count after_leave ≤ new_count ms
     unfolding new_count
     no_more_new =
-        rw (length_marks ms last (marks.Left left)) (count_grows (λ x. is_unvisited (walk_mark_at after_leave x)) (λ x. is_unvisited (walk_mark_at ms x)) (length ms) (λ x l e. new_before x e))
+        rw (length_marks ms last (marks.Left (length order))) (count_grows (λ x. is_unvisited (walk_mark_at after_leave x)) (λ x. is_unvisited (walk_mark_at ms x)) (length ms) (λ x l e. new_before x e))
 
     same_left : (j k : ℕ) → ◌≡◌ {A = Mark} (marks.Left j) (marks.Left k) → j ≡ k
     same_left j k e = cc
 
-    pub passes_back : ((c : ℕ) → IsPart ts last c → is_left (walk_mark_at ms c) ≡ true) → PassesAlong ts ms (front ++ last ∷ []) after_leave (left + 1) front
+    below_or_last : (k n : ℕ) → k < n + 1 → (k < n) ⊎ (k ≡ n)
+    below_or_last k n l = grind arith
+
+    marked_more : (k : ℕ) → k < length (order ++ last ∷ []) → walk_mark_at after_leave (get_or (order ++ last ∷ []) k 0) ≡ marks.Left k
+    marked_more k b =
+        let long = length-append order (last ∷ []) in
+        elim (below_or_last k (length order) (omega arith)) [
+          | inl a ↦
+              let y = get_or order k 0 in
+              ap (walk_mark_at after_leave) (get_or_append_left order (last ∷ []) 0 k a) ∙ there y (not_last y (ap is_left (walk.marked k a))) ∙ walk.marked k a
+          | inr e ↦ ap (walk_mark_at after_leave) (get_or_push order last 0 k (sym e)) ∙ here ∙ ap marks.Left (sym e)
+        ]
+
+    placed_more : (x k : ℕ) → walk_mark_at after_leave x ≡ marks.Left k → (k < length (order ++ last ∷ [])) × (get_or (order ++ last ∷ []) k 0 ≡ x)
+    placed_more x k e =
+        let long = length-append order (last ∷ []) in
+        elim (equal_or_not x last) [
+          | inl i ↦
+              let j : walk_mark_at after_leave last ≡ marks.Left k = subst (λ y. walk_mark_at after_leave y ≡ marks.Left k) i e in
+              let m = same_left (length order) k (sym here ∙ j) in
+              (omega arith, get_or_push order last 0 k m ∙ sym i)
+          | inr d ↦
+              let p = walk.placed x k (sym (there x d) ∙ e) in
+              let b = p.0 in
+              (omega arith, get_or_append_left order (last ∷ []) 0 k b ∙ p.1)
+        ]
+
+    pub passes_back : ((c : ℕ) → IsPart ts last c → is_left (walk_mark_at ms c) ≡ true) → PassesAlong ts ms (front ++ last ∷ []) after_leave (order ++ last ∷ []) front
     passes_back parts = record {
       walk = record {
-        as_long = length_marks ms last (marks.Left left) ∙ walk.as_long;
+        as_long = length_marks ms last (marks.Left (length order)) ∙ walk.as_long;
         within = (below_front (length ts) front last walk.within).0;
         is_path = path_front ts front last walk.is_path;
         entered = λ x e. elim (equal_or_not x last) [
           | inl i ↦ let j : walk_mark_at after_leave last ≡ marks.Entered = subst (λ y. walk_mark_at after_leave y ≡ marks.Entered) i e in let k = here in cc
           | inr d ↦ elim (stands_front x last front (walk.entered x (sym (there x d) ∙ e))) [ inl i ↦ absurd (d i) | inr s ↦ s ]
         ];
-        below = λ x k e. elim (equal_or_not x last) [
-          | inl i ↦
-              let j : walk_mark_at after_leave last ≡ marks.Left k = subst (λ y. walk_mark_at after_leave y ≡ marks.Left k) i e in
-              let m = same_left left k (sym here ∙ j) in
-              omega arith
-          | inr d ↦ let b = walk.below x k (sym (there x d) ∙ e) in omega arith
-        ];
+        marked = marked_more;
+        placed = placed_more;
         ordered = λ x k c e p. elim (equal_or_not x last) [
           | inl i ↦
               let j : walk_mark_at after_leave last ≡ marks.Left k = subst (λ y. walk_mark_at after_leave y ≡ marks.Left k) i e in
-              let m = same_left left k (sym here ∙ j) in
+              let m = same_left (length order) k (sym here ∙ j) in
               let q = parts c (subst (λ y. IsPart ts y c) i p) in
               let o = left_mark (walk_mark_at ms c) q in
-              let b = walk.below c o.0 o.1 in
+              let b = (walk.placed c o.0 o.1).0 in
               (o.0, there c (not_last c q) ∙ o.1, omega arith)
           | inr d ↦
               let o = walk.ordered x k c (sym (there x d) ∙ e) p in
@@ -298,7 +322,7 @@ module _ (ts : List TypeShape) (ms : List Mark) (left : ℕ) (front : List ℕ) 
     stays : StayLeft ms after_enter
     stays x e = ap is_left (elsewhere x (not_part x e)) ∙ e
 
-    counted_still : left ≤ count_below (λ x. is_left (walk_mark_at after_enter x)) (length after_enter)
+    counted_still : length order ≤ count_below (λ x. is_left (walk_mark_at after_enter x)) (length after_enter)
     counted_still =
         let g = count_grows (λ x. is_left (walk_mark_at ms x)) (λ x. is_left (walk_mark_at after_enter x)) (length ms) (λ x l e. stays x e) in
         let k = walk.counted in
@@ -317,7 +341,7 @@ module _ (ts : List TypeShape) (ms : List Mark) (left : ℕ) (front : List ℕ) 
         rw (length_marks ms c marks.Entered) (count_less (λ x. is_unvisited (walk_mark_at after_enter x)) (λ x. is_unvisited (walk_mark_at ms x)) (length ms) (λ x l e. new_elsewhere x e) c part_within
         (ap is_unvisited in_part) fresh)
 
-    pub passes_on : PassesAlong ts ms (front ++ last ∷ []) after_enter left ((front ++ last ∷ []) ++ c ∷ [])
+    pub passes_on : PassesAlong ts ms (front ++ last ∷ []) after_enter order ((front ++ last ∷ []) ++ c ∷ [])
     passes_on = record {
       walk = record {
         as_long = length_marks ms c marks.Entered ∙ walk.as_long;
@@ -327,9 +351,10 @@ module _ (ts : List TypeShape) (ms : List Mark) (left : ℕ) (front : List ℕ) 
           | inl i ↦ subst (λ y. Stands y ((front ++ last ∷ []) ++ c ∷ [])) (sym i) (stands_last c (front ++ last ∷ []))
           | inr d ↦ stands_more x c (front ++ last ∷ []) (walk.entered x (sym (elsewhere x d) ∙ e))
         ];
-        below = λ x k e. elim (equal_or_not x c) [
+        marked = λ k b. let y = get_or order k 0 in elsewhere y (not_part y (ap is_left (walk.marked k b))) ∙ walk.marked k b;
+        placed = λ x k e. elim (equal_or_not x c) [
           | inl i ↦ let j : walk_mark_at after_enter c ≡ marks.Left k = subst (λ y. walk_mark_at after_enter y ≡ marks.Left k) i e in let h = in_part in cc
-          | inr d ↦ walk.below x k (sym (elsewhere x d) ∙ e)
+          | inr d ↦ walk.placed x k (sym (elsewhere x d) ∙ e)
         ];
         ordered = λ x k d e p. elim (equal_or_not x c) [
           | inl i ↦ let j : walk_mark_at after_enter c ≡ marks.Left k = subst (λ y. walk_mark_at after_enter y ≡ marks.Left k) i e in let h = in_part in cc
@@ -348,19 +373,20 @@ module _ (ts : List TypeShape) (ms : List Mark) (left : ℕ) (front : List ℕ) 
   refuses c formed part l n = cycle_never ts front last c formed walk.within walk.is_path part (walk.entered c (new_or_entered (walk_mark_at ms c) l n))
 
 -- The steps from a place.
-pub record Explores (ts : List TypeShape) (old : List Mark) (start : ℕ) (ms : List Mark) (left : ℕ) (path : List ℕ) : Type 0 where
-  pub walk : IsWalk ts ms left path
+pub record Explores (ts : List TypeShape) (old : List Mark) (start : ℕ) (ms : List Mark) (order : List ℕ) (path : List ℕ) : Type 0 where
+  pub walk : IsWalk ts ms order path
   pub stay : StayLeft old ms
   pub start_there : (is_left (walk_mark_at ms start) ≡ true) ⊎ Stands start path
 
-pub explores_first : (ts : List TypeShape) (ms : List Mark) (left start : ℕ) → IsWalk ts ms left [] → start < length ts → Explores ts ms start ms left (start ∷ [])
-explores_first ts ms left start w l = record {
+pub explores_first : (ts : List TypeShape) (ms : List Mark) (order : List ℕ) (start : ℕ) → IsWalk ts ms order [] → start < length ts → Explores ts ms start ms order (start ∷ [])
+explores_first ts ms order start w l = record {
   walk = record {
     as_long = w.as_long;
     within = (l, tt);
     is_path = tt;
     entered = λ x e. absurd (w.entered x e);
-    below = w.below;
+    marked = w.marked;
+    placed = w.placed;
     ordered = w.ordered;
     counted = w.counted;
   };
@@ -368,51 +394,50 @@ explores_first ts ms left start w l = record {
   start_there = inr (inl refl);
 }
 
-pub explores_on : (ts : List TypeShape) (old ms new : List Mark) (start left left' : ℕ) (path path' : List ℕ) → Explores ts old start ms left path → PassesAlong ts ms path new left' path'
-    → Explores ts old start new left' path'
-explores_on ts old ms new start left left' path path' h p = record {
+pub explores_on : (ts : List TypeShape) (old ms new : List Mark) (start : ℕ) (order order' path path' : List ℕ) → Explores ts old start ms order path → PassesAlong ts ms path new order' path'
+    → Explores ts old start new order' path'
+explores_on ts old ms new start order order' path path' h p = record {
   walk = p.walk;
   stay = λ x e. p.stay x (h.stay x e);
   start_there = elim h.start_there [ inl e ↦ inl (p.stay start e) | inr s ↦ p.there start s ];
 }
 
-pub explores_end : (ts : List TypeShape) (old ms : List Mark) (start left : ℕ) → Explores ts old start ms left [] → HasLeft ts old start ms left
-explores_end ts old ms start left h = record {
+pub explores_end : (ts : List TypeShape) (old ms : List Mark) (start : ℕ) (order : List ℕ) → Explores ts old start ms order [] → HasLeft ts old start ms order
+explores_end ts old ms start order h = record {
   walk = h.walk;
   stay = h.stay;
   here = elim h.start_there [ inl e ↦ e | inr s ↦ absurd s ];
 }
 
 -- A place that was left already, and one whose parts were.
-pub left_already : (ts : List TypeShape) (ms : List Mark) (left start : ℕ) → IsWalk ts ms left [] → is_left (walk_mark_at ms start) ≡ true → HasLeft ts ms start ms left
-left_already ts ms left start w e = record { walk = w; stay = λ x h. h; here = e }
+pub left_already : (ts : List TypeShape) (ms : List Mark) (order : List ℕ) (start : ℕ) → IsWalk ts ms order [] → is_left (walk_mark_at ms start) ≡ true → HasLeft ts ms start ms order
+left_already ts ms order start w e = record { walk = w; stay = λ x h. h; here = e }
 
-pub leaves_at_once : (ts : List TypeShape) (ms ns : List Mark) (left k start : ℕ) → IsWalk ts ms left [] → start < length ts → is_left (walk_mark_at ms start) ≡ false
-    → ((c : ℕ) → IsPart ts start c → is_left (walk_mark_at ms c) ≡ true) → ns ≡ set ms start (marks.Left left) → k ≡ left + 1 → HasLeft ts ms start ns k
-leaves_at_once ts ms ns left k start w l e parts f g =
-    let first = explores_first ts ms left start w l in
+pub leaves_at_once : (ts : List TypeShape) (ms ns : List Mark) (order order' : List ℕ) (start : ℕ) → IsWalk ts ms order [] → start < length ts → is_left (walk_mark_at ms start) ≡ false
+    → ((c : ℕ) → IsPart ts start c → is_left (walk_mark_at ms c) ≡ true) → ns ≡ set ms start (marks.Left (length order)) → order' ≡ order ++ start ∷ [] → HasLeft ts ms start ns order'
+leaves_at_once ts ms ns order order' start w l e parts f g =
+    let first = explores_first ts ms order start w l in
     let long = w.as_long in
-    let step = passes_back ts ms left [] start first.walk e (omega (arith, l, long)) parts in
-    let last = explores_end ts ms (set ms start (marks.Left left)) start (left + 1) (explores_on ts ms ms (set ms start (marks.Left left)) start left (left + 1) (start ∷ []) [] first step) in
-    subst (λ (xs : List Mark). HasLeft ts ms start xs k) (sym f) (subst (λ n. HasLeft ts ms start (set ms start (marks.Left left)) n) (sym g) last)
-
-pub room_at_once : (ts : List TypeShape) (ms : List Mark) (left start : ℕ) → IsWalk ts ms left [] → start < length ts → is_left (walk_mark_at ms start) ≡ false → left < length ms
-room_at_once ts ms left start w l e = let long = w.as_long in room ts ms left [] start (explores_first ts ms left start w l).walk e (omega (arith, l, long))
+    let step = passes_back ts ms order [] start first.walk e (omega (arith, l, long)) parts in
+    let now = set ms start (marks.Left (length order)) in
+    let last = explores_end ts ms now start (order ++ start ∷ []) (explores_on ts ms ms now start order (order ++ start ∷ []) (start ∷ []) [] first step) in
+    subst (λ (xs : List Mark). HasLeft ts ms start xs order') (sym f) (subst (λ (os : List ℕ). HasLeft ts ms start now os) (sym g) last)
 
 -- A walk begins.
-new_everywhere : (n x : ℕ) → walk_mark_at (replicate n marks.New) x ≡ marks.New
+pub new_everywhere : (n x : ℕ) → walk_mark_at (replicate n marks.New) x ≡ marks.New
 new_everywhere zero x = refl
 new_everywhere (suc n) zero = refl
 new_everywhere (suc n) (suc x) = new_everywhere n x
 
-pub walk_begins : (ts : List TypeShape) (ms : List Mark) → ms ≡ replicate (length ts) marks.New → IsWalk ts ms 0 []
+pub walk_begins : (ts : List TypeShape) (ms : List Mark) → ms ≡ replicate (length ts) marks.New → IsWalk ts ms [] []
 walk_begins ts ms e =
     let fresh : (x : ℕ) → walk_mark_at ms x ≡ marks.New = λ x. ap (λ (ns : List Mark). walk_mark_at ns x) e ∙ new_everywhere (length ts) x in record {
       as_long = ap length e ∙ length-replicate (length ts) marks.New;
       within = tt;
       is_path = tt;
       entered = λ x h. let f = fresh x in cc;
-      below = λ x k h. let f = fresh x in cc;
+      marked = λ k h. absurd (omega (arith, h));
+      placed = λ x k h. let f = fresh x in cc;
       ordered = λ x k c h p. let f = fresh x in cc;
       counted = omega arith;
     }
@@ -431,28 +456,28 @@ pub read_open : (ts : List TypeShape) (m x : ℕ) → shape_at ts x ≡ hole x �
 read_open ts zero x e = refl
 read_open ts (suc m) x e = ap (filled (read ts m)) e ∙ read_open ts m x e
 
-read_settles : (ts : List TypeShape) (ms : List Mark) (left : ℕ) → IsWalk ts ms left [] → (m x k : ℕ) → walk_mark_at ms x ≡ marks.Left k → k < m → read ts m x ≡ read ts (suc m) x
-read_settles ts ms left w zero x k e l = absurd (omega arith)
-read_settles ts ms left w (suc m) x k e l =
+read_settles : (ts : List TypeShape) (ms : List Mark) (order : List ℕ) → IsWalk ts ms order [] → (m x k : ℕ) → walk_mark_at ms x ≡ marks.Left k → k < m → read ts m x ≡ read ts (suc m) x
+read_settles ts ms order w zero x k e l = absurd (omega arith)
+read_settles ts ms order w (suc m) x k e l =
     elim (open_or_parts x (shape_at ts x)) [
       | inl o ↦ read_open ts (suc m) x o ∙ sym (read_open ts (suc (suc m)) x o)
       | inr p ↦ filled_same (read ts m) (read ts (suc m)) (shape_at ts x) (λ c o.
           let r = w.ordered x k c e (p c o) in
           let j = r.2 in
-          read_settles ts ms left w m c r.0 r.1 (omega arith))
+          read_settles ts ms order w m c r.0 r.1 (omega arith))
     ]
 
-pub walk_settles : (ts : List TypeShape) (ms : List Mark) (left : ℕ) → AreFormed ts → IsWalk ts ms left [] → ((x : ℕ) → x < length ts → is_left (walk_mark_at ms x) ≡ true) → IsSettledTable ts
-walk_settles ts ms left h w a = record {
+pub walk_settles : (ts : List TypeShape) (ms : List Mark) (order : List ℕ) → AreFormed ts → IsWalk ts ms order [] → ((x : ℕ) → x < length ts → is_left (walk_mark_at ms x) ≡ true) → IsSettledTable ts
+walk_settles ts ms order h w a = record {
   formed = h;
   fits = λ x. elim (below_or_past x (length ts)) [
     | inl l ↦
         let k = left_mark (walk_mark_at ms x) (a x l) in
-        let b = w.below x k.0 k.1 in
+        let b = (w.placed x k.0 k.1).0 in
         let c = w.counted in
         let d = count_most (λ y. is_left (walk_mark_at ms y)) (length ms) in
         let e = w.as_long in
-        read_settles ts ms left w (length ts) x k.0 k.1 (omega arith)
+        read_settles ts ms order w (length ts) x k.0 k.1 (omega arith)
     | inr l ↦ sym (ap (filled (value_of ts)) (at_past ts x l))
   ];
 }
@@ -461,8 +486,8 @@ walk_settles ts ms left h w a = record {
     below_or_past i j = grind arith
 
 -- The same for what the program returns.
-pub passes_as : {ms' : List Mark} {left' : ℕ} {path' : List ℕ} → (ts : List TypeShape) (old : List Mark) (path : List ℕ) (ms : List Mark) (left : ℕ) (path'' : List ℕ) → ms ≡ ms' → left ≡ left' → path'' ≡ path'
-    → PassesAlong ts old path ms' left' path' → PassesAlong ts old path ms left path''
-passes_as {ms' = ms'} {left' = left'} {path' = path'} ts old path ms left path'' e f g h =
-    subst (λ (ns : List Mark). PassesAlong ts old path ns left path'') (sym e)
-    (subst (λ n. PassesAlong ts old path ms' n path'') (sym f) (subst (λ (xs : List ℕ). PassesAlong ts old path ms' left' xs) (sym g) h))
+pub passes_as : {ms' : List Mark} {order' path' : List ℕ} → (ts : List TypeShape) (old : List Mark) (path : List ℕ) (ms : List Mark) (order path'' : List ℕ) → ms ≡ ms' → order ≡ order' → path'' ≡ path'
+    → PassesAlong ts old path ms' order' path' → PassesAlong ts old path ms order path''
+passes_as {ms' = ms'} {order' = order'} {path' = path'} ts old path ms order path'' e f g h =
+    subst (λ (ns : List Mark). PassesAlong ts old path ns order path'') (sym e)
+    (subst (λ (os : List ℕ). PassesAlong ts old path ms' os path'') (sym f) (subst (λ (xs : List ℕ). PassesAlong ts old path ms' order' xs) (sym g) h))

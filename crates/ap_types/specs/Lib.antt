@@ -11,6 +11,7 @@ pub mod Triangular
 pub mod Joining
 pub mod Loading
 pub mod Needed
+pub mod Barred
 pub mod Writing
 pub mod Walking
 pub mod Tables

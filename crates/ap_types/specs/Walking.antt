@@ -41,15 +41,23 @@ abbrev pub ArePlacesBelow : ℕ → List ℕ → Type 0
 ArePlacesBelow n [] = Unit {0}
 ArePlacesBelow n (x ∷ xs) = (x < n) × ArePlacesBelow n xs
 
--- Parts were left before what they are parts of, and what was entered and not left stands on the path.
-pub record IsWalk (ts : List TypeShape) (ms : List Mark) (left : ℕ) (path : List ℕ) : Type 0 where
+-- Parts were left before what they are parts of, and what was entered and not left stands on the path. The places that were left
+-- stand in the order in which they were.
+pub record IsWalk (ts : List TypeShape) (ms : List Mark) (order : List ℕ) (path : List ℕ) : Type 0 where
   pub as_long : length ms ≡ length ts
   pub within : ArePlacesBelow (length ts) path
   pub is_path : IsPath ts path
   pub entered : (x : ℕ) → walk_mark_at ms x ≡ marks.Entered → Stands x path
-  pub below : (x k : ℕ) → walk_mark_at ms x ≡ marks.Left k → k < left
+  pub marked : (k : ℕ) → k < length order → walk_mark_at ms (slice_index_or order k 0) ≡ marks.Left k
+  pub placed : (x k : ℕ) → walk_mark_at ms x ≡ marks.Left k → (k < length order) × (slice_index_or order k 0 ≡ x)
   pub ordered : (x k c : ℕ) → walk_mark_at ms x ≡ marks.Left k → IsPart ts x c → (j : ℕ) × (walk_mark_at ms c ≡ marks.Left j) × (j < k)
-  pub counted : left ≤ count_below (λ x. is_left (walk_mark_at ms x)) (length ms)
+  pub counted : length order ≤ count_below (λ x. is_left (walk_mark_at ms x)) (length ms)
+
+-- Each place of the table stands in the order, behind its parts.
+pub record AreInOrder (ts : List TypeShape) (order : List ℕ) : Type 0 where
+  pub within : (k : ℕ) → k < length order → slice_index_or order k 0 < length ts
+  pub whole : (x : ℕ) → x < length ts → (k : ℕ) × (k < length order) × (slice_index_or order k 0 ≡ x)
+  pub behind : (k c : ℕ) → k < length order → IsPart ts (slice_index_or order k 0) c → (j : ℕ) × (j < k) × (slice_index_or order j 0 ≡ c)
 
 -- what was left stays left
 abbrev pub StayLeft : List Mark → List Mark → Type 0
@@ -60,15 +68,15 @@ unfoldable pub new_count : List Mark → ℕ
 new_count ms = count_below (λ x. is_unvisited (walk_mark_at ms x)) (length ms)
 
 -- A step along a path: what stood on it stands there still or was left, and fewer steps are left.
-pub record PassesAlong (ts : List TypeShape) (old : List Mark) (path : List ℕ) (ms : List Mark) (left : ℕ) (path' : List ℕ) : Type 0 where
-  pub walk : IsWalk ts ms left path'
+pub record PassesAlong (ts : List TypeShape) (old : List Mark) (path : List ℕ) (ms : List Mark) (order : List ℕ) (path' : List ℕ) : Type 0 where
+  pub walk : IsWalk ts ms order path'
   pub stay : StayLeft old ms
   pub there : (x : ℕ) → Stands x path → (is_left (walk_mark_at ms x) ≡ true) ⊎ Stands x path'
   pub fewer : length path' + 2 * new_count ms < length path + 2 * new_count old
 
 -- The walk has left the place, and is on no path.
-pub record HasLeft (ts : List TypeShape) (old : List Mark) (x : ℕ) (ms : List Mark) (left : ℕ) : Type 0 where
-  pub walk : IsWalk ts ms left []
+pub record HasLeft (ts : List TypeShape) (old : List Mark) (x : ℕ) (ms : List Mark) (order : List ℕ) : Type 0 where
+  pub walk : IsWalk ts ms order []
   pub stay : StayLeft old ms
   pub here : is_left (walk_mark_at ms x) ≡ true
 

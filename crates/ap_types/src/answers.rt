@@ -37,7 +37,7 @@ pub fn may_hold(alloc: Global, sig: &Signature, ty: &Ty, sort: u32) -> Result<bo
         ↔ MayHold (signature_of sig.now).constructors (type_of ty.now) sort) }
 {
     let table = least_table(alloc, Question::Holds(sort), sig.constructors.items())?;
-    let answer = holds_by(sort, table.as_slice(), ty);
+    let answer = holds_by(alloc, sort, table.as_slice(), ty)?;
     Ok(answer)
 }
 

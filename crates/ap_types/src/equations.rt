@@ -7,6 +7,7 @@ ghost use Rattle.ap_types.specs.Assignments.{AreNames, IsUnsolvable, name_equati
 ghost use Rattle.ap_types.specs.Triangular.{shapes_of_nodes, AreFormed, IsSettledTable, assignment_of};
 ghost use Rattle.ap_types.specs.Loading.{own_bound};
 ghost use Rattle.ap_types.specs.Joining.{ArePairsWithin, NeverAgree, LoadsSystem, Settles};
+ghost use Rattle.ap_types.specs.Walking.{AreInOrder};
 
 use crate::errors::TypesError;
 use crate::joining::{join_all, shorten_all};
@@ -14,7 +15,7 @@ use crate::loading::{Loaded, load_all, open_places};
 use crate::nodes::Node;
 use crate::parts::push_parts;
 use crate::solved::{Solved, are_names_or_holes, written_out};
-use crate::walking::refuse_cycles;
+use crate::walking::in_order;
 use ap_defs::lists::List;
 use ap_defs::memory::Memory;
 use ap_defs::terms::{Assignment, Shape};
@@ -140,19 +141,20 @@ fn load_system(
     load_all(alloc, loaded, by_names.as_slice())
 }
 
-/// The table in which the pairs of places have become alike.
-fn settled(alloc: Global, loaded: Loaded) -> Result<Vec<Node>, TypesError>
+/// The table in which the pairs of places have become alike, and its places, each behind its parts.
+fn settled(alloc: Global, loaded: Loaded) -> Result<(Vec<Node>, Vec<usize>), TypesError>
     requires formed { AreFormed (shapes_of_nodes loaded.nodes.items) }
     requires within { ArePairsWithin (length loaded.nodes.items) loaded.pairs.items }
-    ensures ok { IfOk result (λ v. Settles (shapes_of_nodes loaded.nodes.items) loaded.pairs.items
-        (shapes_of_nodes v.items)) }
+    ensures ok { IfOk result (λ r. Settles (shapes_of_nodes loaded.nodes.items) loaded.pairs.items
+        (shapes_of_nodes r.0.items)) }
+    ensures order { IfOk result (λ r. AreInOrder (shapes_of_nodes r.0.items) r.1.items) }
     ensures clash { IfErr result (λ e. e ≡ TypesError.Clash →
         NeverAgree (shapes_of_nodes loaded.nodes.items) loaded.pairs.items) }
 {
     let mut nodes = join_all(loaded)?;
     shorten_all(&mut nodes);
-    refuse_cycles(alloc, nodes.as_slice())?;
-    Ok(nodes)
+    let order = in_order(alloc, nodes.as_slice())?;
+    Ok((nodes, order))
 }
 
 /// A table that has every solution of the equations, before it is tested whether the holes that must be
@@ -164,6 +166,7 @@ fn narrowed(
     name_types: u32,
 ) -> Result<Solved, TypesError>
     ensures settled { IfOk result (λ s. IsSettledTable (shapes_of_nodes s.nodes.items)) }
+    ensures order { IfOk result (λ s. AreInOrder (shapes_of_nodes s.nodes.items) s.order.items) }
     ensures holes { IfOk result (λ s. s.holes
         ≡ hole_count (map equation_of equations.now) names.now) }
     ensures narrows { IfOk result (λ s. Narrows (map equation_of equations.now) names.now name_types
@@ -175,8 +178,12 @@ fn narrowed(
     let in_names = bound_in_names(names)?;
     let holes = greater(in_equations, in_names);
     let loaded = load_system(alloc, equations, names, name_types, holes)?;
-    let nodes = settled(alloc, loaded)?;
-    Ok(Solved { nodes, holes })
+    let (nodes, order) = settled(alloc, loaded)?;
+    Ok(Solved {
+        nodes,
+        order,
+        holes,
+    })
 }
 
 /// The most general assignment of types to the holes of equations, as a table.
@@ -190,6 +197,7 @@ pub fn solved(
     name_types: u32,
 ) -> Result<Solved, TypesError>
     ensures settled { IfOk result (λ s. IsSettledTable (shapes_of_nodes s.nodes.items)) }
+    ensures order { IfOk result (λ s. AreInOrder (shapes_of_nodes s.nodes.items) s.order.items) }
     ensures in_order { IfOk result (λ s. s.holes
         ≡ hole_count (map equation_of equations.now) names.now) }
     ensures most_general { IfOk result (λ s. (f : Filling) →

@@ -7,7 +7,7 @@ use ap_defs::memory::Memory;
 use std::alloc::{AllocError, AllocFailed};
 
 /// Equations of types that no assignment solves, or want of memory.
-#[derive(Clone, Copy, Debug, PartialEq, Eq)]
+#[derive(Clone, Copy)]
 pub enum TypesError {
     Clash,
     Memory,

@@ -28,9 +28,11 @@ pub fn types_holding(alloc: Global, sig: &Signature, sort: u32) -> Result<Holdin
     Ok(Holding { sort, table })
 }
 
-/// Whether a type may hold names of the table's sort, as `may_hold` says. It takes no memory.
-pub fn holds(table: &Holding, ty: &Ty) -> bool
-    ensures { result ≡ holds_if table.now.sort (marked table.now.table.items) (type_of ty.now) }
+/// Whether a type may hold names of the table's sort, as `may_hold` says. `Err` is want of memory, or too many parts
+/// of a type that shares them.
+pub fn holds(alloc: Global, table: &Holding, ty: &Ty) -> Result<bool, Memory>
+    ensures { IfOk result (λ b. b
+        ≡ holds_if table.now.sort (marked table.now.table.items) (type_of ty.now)) }
 {
-    holds_by(table.sort, table.table.as_slice(), ty)
+    holds_by(alloc, table.sort, table.table.as_slice(), ty)
 }

@@ -1,11 +1,12 @@
 //! Which types are inhabited, where this is asked of many types, also between declarations.
 
-ghost use Rattle.std.specs.Prelude.{◌↔◌, IsTrue, List as list, [], ◌∷◌, ◌++◌, map, IfOk, OnOk};
+ghost use Rattle.std.specs.Prelude.{◌≡◌, ◌↔◌, IsTrue, List as list, [], ◌∷◌, ◌++◌, map, IfOk, OnOk};
 ghost use Rattle.ap_defs.specs.Types.{NominalConstructor, type_of, constructor_of};
 ghost use Rattle.ap_types.specs.Inhabited.{IsInhabited};
+ghost use Rattle.ap_types.specs.Rounds.{marked};
 ghost use Rattle.ap_types.specs.Tables.{AreInhabitants};
 
-use crate::least::{Least, nothing};
+use crate::least::{Least, is_marked, nothing};
 use crate::rounds::{Question, add_constructor, is_inhabited_by, least_of};
 use ap_defs::goals::Constructor;
 use ap_defs::memory::Memory;
@@ -51,6 +52,13 @@ pub fn declare(
         &mut inhabitants.found,
         constructor,
     )
+}
+
+/// Whether a data type is inhabited by the constructors so far.
+pub fn is_base_inhabited(inhabitants: &Inhabitants, base: u32) -> bool
+    ensures { result ≡ marked inhabitants.now.found.table.items base }
+{
+    is_marked(inhabitants.found.table.as_slice(), base)
 }
 
 /// Whether a type is inhabited by the constructors so far. It costs as much as the type is long. `Err` is

@@ -22,7 +22,7 @@ mod picking;
 mod rounds;
 pub mod solved;
 mod walking;
-mod writing;
+pub mod writing;
 
 pub use choices::{Choice, choices_of};
 pub use picking::{Picker, picker_of};

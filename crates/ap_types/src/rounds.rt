@@ -1,6 +1,6 @@
 //! Questions of types whose answers for data types are found in rounds.
 //!
-//! Each walk goes on along what is last in a type, and calls itself on left parts of pairs alone.
+//! A walk over a declared type goes on along what is last in it, and calls itself on left parts of pairs alone.
 
 ghost use Rattle.std.specs.Prelude.{◌≡◌, ℕ, List as list, [], ◌∷◌, ◌++◌, map, Bool, ◌&&◌, ◌==◌, IfOk, OnOk};
 ghost use Rattle.ap_defs.specs.Types.{NominalConstructor, type_of, constructor_of};
@@ -8,6 +8,7 @@ ghost use Rattle.ap_types.specs.Rounds.{marked, IsLeastSet};
 ghost use Rattle.ap_types.specs.Inhabited.{inhabited_if, all_inhabited};
 ghost use Rattle.ap_types.specs.Loading.{lent};
 ghost use Rattle.ap_types.specs.Needed.{own_inhabited, needed_parts};
+ghost use Rattle.ap_types.specs.Barred.{own_barred, type_parts};
 ghost use Rattle.ap_types.specs.Holding.{holds_if, some_holds};
 ghost use Rattle.ap_types.specs.Questions.{test_of};
 ghost use Rattle.ap_types.specs.Rules.{all_are_in, Adds, Say, IsLeastSoFar};
@@ -70,25 +71,55 @@ pub(crate) fn is_inhabited_by(alloc: Global, table: &[bool], t: &Ty) -> Result<b
     }
 }
 
-/// Whether a type may hold names of a sort, by the data types that are marked as those that may.
-pub(crate) fn holds_by(sort: u32, table: &[bool], t: &Ty) -> bool
-    ensures { result ≡ holds_if sort (marked table.now) (type_of t.now) }
+/// Whether a type holds no names of a sort by itself, whatever its parts hold.
+fn own_barred(sort: u32, table: &[bool], t: &Ty) -> bool
+    ensures { result ≡ own_barred sort (marked table.now) (type_of t.now) }
 {
-    let mut rest = t;
-    loop {
-        match rest {
-            Ty::Unit => return false,
-            Ty::Names(other) => return *other == sort,
-            Ty::Base(base) => return is_marked(table, *base),
-            Ty::Pair(left, right) => {
-                if holds_by(sort, table, left) {
-                    return true;
-                }
-                rest = right;
-            }
-            Ty::List(inner) | Ty::Abs(_, inner) => rest = inner,
-        }
+    match t {
+        Ty::Names(other) => *other != sort,
+        Ty::Base(base) => !is_marked(table, *base),
+        _ => true,
     }
+}
+
+/// Puts the parts of a type on a stack.
+fn push_type_parts<'a>(waiting: &mut Vec<&'a Ty>, t: &'a Ty) -> Result<(), Memory>
+    ensures { OnOk result (lent type_of waiting.new.items
+        ≡ lent type_of waiting.old.items ++ type_parts (type_of t.now)) }
+{
+    match t {
+        Ty::Unit | Ty::Names(_) | Ty::Base(_) => {}
+        Ty::Pair(left, right) => {
+            waiting.push(left)?;
+            waiting.push(right)?;
+        }
+        Ty::List(part) | Ty::Abs(_, part) => waiting.push(part)?,
+    }
+    Ok(())
+}
+
+/// How many parts of a type are looked at. A type that shares its parts can have more, written out, than memory.
+const MOST_PARTS: u32 = 1 << 27;
+
+/// Whether a type may hold names of a sort, by the data types that are marked as those that may. The parts that
+/// are left stand on a stack: the type of an identifier can be deep on either side. A type that has too many
+/// parts, written out, is refused as want of memory is.
+pub(crate) fn holds_by(alloc: Global, sort: u32, table: &[bool], t: &Ty) -> Result<bool, Memory>
+    ensures { IfOk result (λ b. b ≡ holds_if sort (marked table.now) (type_of t.now)) }
+{
+    let mut waiting = Vec::new(alloc);
+    let mut part = t;
+    'parts: for _ in 0..MOST_PARTS {
+        if !own_barred(sort, table, part) {
+            return Ok(true);
+        }
+        push_type_parts(&mut waiting, part)?;
+        let Some(next) = waiting.pop() else {
+            return Ok(false);
+        };
+        part = next;
+    }
+    Err(Memory)
 }
 
 /// The data types that must be in for a type to be inhabited.

@@ -15,10 +15,11 @@ use std::alloc::Global;
 
 /// The most general assignment of equations that have one, as a table in which equal parts can stand
 /// once: it takes no more room than the equations, where the shapes written out may be exponentially
-/// larger. The first `holes` places are the holes.
+/// larger. The first `holes` places are the holes; in `order` each place stands behind its parts.
 #[derive(Drop)]
 pub struct Solved {
     pub nodes: Vec<Node>,
+    pub order: Vec<usize>,
     pub holes: usize,
 }
 

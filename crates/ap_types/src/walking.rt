@@ -2,7 +2,7 @@
 
 ghost use Rattle.std.specs.Prelude.{◌≡◌, ℕ, ◌<◌, ◌≤◌, ◌+◌, ◌++◌, ◌∷◌, [], slice_set, length, true, false, MatchOption, IfOk, IfErr};
 ghost use Rattle.ap_types.specs.Triangular.{shapes_of_nodes, AreFormed, IsSettledTable};
-ghost use Rattle.ap_types.specs.Walking.{IsPart, walk_mark_at, is_left, is_unvisited, IsWalk, PassesAlong, HasLeft, NoneFits};
+ghost use Rattle.ap_types.specs.Walking.{IsPart, walk_mark_at, is_left, is_unvisited, IsWalk, AreInOrder, PassesAlong, HasLeft, NoneFits};
 
 use crate::errors::TypesError;
 use crate::nodes::Node;
@@ -17,12 +17,12 @@ pub(crate) enum Mark {
     Left(usize),
 }
 
-/// The marks of places, how many were left, and the path to the place where the walk is, each place a
-/// part of the one before.
+/// The marks of places, those that were left in the order in which they were, and the path to the place where
+/// the walk is, each place a part of the one before.
 #[derive(Drop)]
 struct Walk {
     marks: Vec<Mark>,
-    left: usize,
+    order: Vec<usize>,
     path: Vec<usize>,
 }
 
@@ -73,48 +73,45 @@ fn waiting_part(nodes: &[Node], marks: &[Mark], x: usize) -> Option<usize>
 fn enter(walk: Walk, x: usize) -> Result<Walk, Memory>
     requires { x < length walk.marks.items }
     ensures marks { IfOk result (λ w. w.marks.items ≡ slice_set walk.marks.items x Mark.Entered) }
-    ensures left { IfOk result (λ w. w.left ≡ walk.left) }
+    ensures order { IfOk result (λ w. w.order.items ≡ walk.order.items) }
     ensures path { IfOk result (λ w. w.path.items ≡ walk.path.items ++ x ∷ []) }
 {
     let Walk {
         mut marks,
-        left,
+        order,
         mut path,
     } = walk;
     marks[x] = Mark::Entered;
     path.push(x)?;
-    Ok(Walk { marks, left, path })
+    Ok(Walk { marks, order, path })
 }
 
 /// The walk after it left a place.
-fn leave(walk: Walk, x: usize) -> Walk
-    requires within { x < length walk.marks.items }
-    requires room { walk.left < length walk.marks.items }
-    ensures marks { result.marks.items ≡ slice_set walk.marks.items x (Mark.Left walk.left) }
-    ensures left { result.left ≡ walk.left + 1 }
-    ensures path { result.path.items ≡ walk.path.items }
+fn leave(walk: Walk, x: usize) -> Result<Walk, Memory>
+    requires { x < length walk.marks.items }
+    ensures marks { IfOk result (λ w. w.marks.items
+        ≡ slice_set walk.marks.items x (Mark.Left (length walk.order.items))) }
+    ensures order { IfOk result (λ w. w.order.items ≡ walk.order.items ++ x ∷ []) }
+    ensures path { IfOk result (λ w. w.path.items ≡ walk.path.items) }
 {
     let Walk {
         mut marks,
-        left,
+        mut order,
         path,
     } = walk;
-    marks[x] = Mark::Left(left);
-    Walk {
-        marks,
-        left: left + 1,
-        path,
-    }
+    marks[x] = Mark::Left(order.len());
+    order.push(x)?;
+    Ok(Walk { marks, order, path })
 }
 
 /// Goes back from the last place of a path where its parts were left, or else on to one of them; that
 /// one stands on the path already where it was entered.
 fn pass(nodes: &[Node], walk: Walk, last: usize) -> Result<Walk, TypesError>
     requires formed { AreFormed (shapes_of_nodes nodes.now) }
-    requires walk { IsWalk (shapes_of_nodes nodes.now) walk.marks.items walk.left
+    requires walk { IsWalk (shapes_of_nodes nodes.now) walk.marks.items walk.order.items
         (walk.path.items ++ last ∷ []) }
     ensures ok { IfOk result (λ w. PassesAlong (shapes_of_nodes nodes.now) walk.marks.items
-        (walk.path.items ++ last ∷ []) w.marks.items w.left w.path.items) }
+        (walk.path.items ++ last ∷ []) w.marks.items w.order.items w.path.items) }
     ensures clash { IfErr result (λ e. e ≡ TypesError.Clash →
         NoneFits (shapes_of_nodes nodes.now)) }
 {
@@ -123,18 +120,18 @@ fn pass(nodes: &[Node], walk: Walk, last: usize) -> Result<Walk, TypesError>
         return Ok(walk);
     }
     match waiting_part(nodes, marks, last) {
-        None => Ok(leave(walk, last)),
+        None => Ok(leave(walk, last)?),
         Some(c) => {
             if !is_new(marks, c) {
                 return Err(TypesError::Clash);
             }
             let Walk {
                 marks,
-                left,
+                order,
                 mut path,
             } = walk;
             path.push(last)?;
-            let walk = enter(Walk { marks, left, path }, c)?;
+            let walk = enter(Walk { marks, order, path }, c)?;
             Ok(walk)
         }
     }
@@ -144,21 +141,21 @@ fn pass(nodes: &[Node], walk: Walk, last: usize) -> Result<Walk, TypesError>
 fn explore_parts(nodes: &[Node], walk: Walk, start: usize) -> Result<Walk, TypesError>
     requires formed { AreFormed (shapes_of_nodes nodes.now) }
     requires within { start < length nodes.now }
-    requires walk { IsWalk (shapes_of_nodes nodes.now) walk.marks.items walk.left [] }
+    requires walk { IsWalk (shapes_of_nodes nodes.now) walk.marks.items walk.order.items [] }
     requires path { walk.path.items ≡ [] }
     ensures left { IfOk result (λ w. HasLeft (shapes_of_nodes nodes.now) walk.marks.items start
-        w.marks.items w.left) }
+        w.marks.items w.order.items) }
     ensures path { IfOk result (λ w. w.path.items ≡ []) }
     ensures clash { IfErr result (λ e. e ≡ TypesError.Clash →
         NoneFits (shapes_of_nodes nodes.now)) }
 {
     let Walk {
         marks,
-        left,
+        order,
         mut path,
     } = walk;
     path.push(start)?;
-    let mut now = Walk { marks, left, path };
+    let mut now = Walk { marks, order, path };
     'steps: while let Some(last) = now.path.pop() {
         now = pass(nodes, now, last)?;
     }
@@ -170,10 +167,10 @@ fn explore_parts(nodes: &[Node], walk: Walk, start: usize) -> Result<Walk, Types
 fn explore(nodes: &[Node], walk: Walk, start: usize) -> Result<Walk, TypesError>
     requires formed { AreFormed (shapes_of_nodes nodes.now) }
     requires within { start < length nodes.now }
-    requires walk { IsWalk (shapes_of_nodes nodes.now) walk.marks.items walk.left [] }
+    requires walk { IsWalk (shapes_of_nodes nodes.now) walk.marks.items walk.order.items [] }
     requires path { walk.path.items ≡ [] }
     ensures left { IfOk result (λ w. HasLeft (shapes_of_nodes nodes.now) walk.marks.items start
-        w.marks.items w.left) }
+        w.marks.items w.order.items) }
     ensures path { IfOk result (λ w. w.path.items ≡ []) }
     ensures clash { IfErr result (λ e. e ≡ TypesError.Clash →
         NoneFits (shapes_of_nodes nodes.now)) }
@@ -183,25 +180,27 @@ fn explore(nodes: &[Node], walk: Walk, start: usize) -> Result<Walk, TypesError>
         return Ok(walk);
     }
     match waiting_part(nodes, marks, start) {
-        None => Ok(leave(walk, start)),
+        None => Ok(leave(walk, start)?),
         Some(_) => explore_parts(nodes, walk, start),
     }
 }
 
-/// Walks over all places, and refuses a table in which one stands within itself.
-pub(crate) fn refuse_cycles(alloc: Global, nodes: &[Node]) -> Result<(), TypesError>
+/// All places, each behind its parts. Refuses a table in which a place stands within itself.
+pub(crate) fn in_order(alloc: Global, nodes: &[Node]) -> Result<Vec<usize>, TypesError>
     requires { AreFormed (shapes_of_nodes nodes.now) }
-    ensures ok { IfOk result (λ u. IsSettledTable (shapes_of_nodes nodes.now)) }
+    ensures ok { IfOk result (λ v. IsSettledTable (shapes_of_nodes nodes.now)) }
+    ensures order { IfOk result (λ v. AreInOrder (shapes_of_nodes nodes.now) v.items) }
     ensures clash { IfErr result (λ e. e ≡ TypesError.Clash →
         NoneFits (shapes_of_nodes nodes.now)) }
 {
     let mut walk = Walk {
         marks: vec![in alloc; Mark::New; nodes.len()]?,
-        left: 0,
+        order: Vec::with_capacity(alloc, nodes.len())?,
         path: Vec::new(alloc),
     };
     for x in 0..nodes.len() {
         walk = explore(nodes, walk, x)?;
     }
-    Ok(())
+    let Walk { order, .. } = walk;
+    Ok(order)
 }

@@ -34,7 +34,7 @@ pub(crate) enum Next {
 }
 
 /// The entry that stands for a place, which is itself a place only where that is open.
-pub(crate) fn entry_at(nodes: &[Node], x: usize) -> Node
+pub fn entry_at(nodes: &[Node], x: usize) -> Node
     requires { IsSettledTable (shapes_of_nodes nodes.now) }
     ensures { IsEntryOf (value_of (shapes_of_nodes nodes.now)) x result }
 {

@@ -4,7 +4,7 @@ ghost use Rattle.std.specs.Prelude.{◌≡◌};
 ghost use Rattle.ap_words.specs.Table.{commands, command_name, is_required, option_name, options_of};
 
 /// A command.
-#[derive(Clone, Copy, PartialEq, Eq)]
+#[derive(Clone, Copy)]
 pub enum CommandName {
     /// `run`, which answers the queries of a text
     Run,
@@ -25,7 +25,7 @@ pub enum CommandName {
 }
 
 /// An option of a command.
-#[derive(Clone, Copy, PartialEq, Eq)]
+#[derive(Clone, Copy)]
 pub enum OptionName {
     /// `--depth`, the depth to which queries are searched
     Depth,

@@ -135,7 +135,7 @@ fn checked(alloc: Global, program: &Restricted, bundle: &SharedBundle) -> Result
     for it in bundle.proved.items() {
         let terms = it.terms.as_ref();
         let verdict = verify(alloc, program, it.query, terms, &it.answer, &it.derivation)?;
-        if verdict == Verdict::Yes {
+        if matches!(verdict, Verdict::Yes) {
             count = count.saturating_add(1);
         }
     }

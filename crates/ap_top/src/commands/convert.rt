@@ -2,16 +2,15 @@
 ghost use Rattle.std.specs.Prelude.{IfOk};
 ghost use Rattle.ap_report.specs.declared.report.Report.{Report};
 ghost use Rattle.ap_bundle_commands.specs.ConvertReports.{IsConvertReport};
-ghost use Rattle.ap_top.specs.Report.{Input, IsOnlyReport, IsReportOn};
-ghost use Rattle.ap_top.specs.Run.{IsRead};
+ghost use Rattle.ap_run.specs.Inputs.{Input, IsOnlyReport, IsReportOn};
+ghost use Rattle.ap_run.specs.Writing.{IsRead};
 
-use crate::lines::line;
-use crate::reading::{ReadError, read_whole};
 use ap_bundle::version::Version;
 use ap_bundle_commands::convert_bytes;
 use ap_defs::memory::Memory;
 use ap_io::Source;
 use ap_report::{Report, Status};
+use ap_run::{ReadError, line, read_whole};
 use std::alloc::Global;
 
 /// The report of a conversion of what the source has left.

@@ -10,7 +10,7 @@ use std::marker::Model;
 pub const MOST_QUERIES: u32 = 1_000;
 
 /// How many queries a text is made with: a number from 1 to 1,000. Contracts see it as that number.
-#[derive(Clone, Copy, PartialEq, Eq)]
+#[derive(Clone, Copy)]
 pub struct Size {
     number: u32,
 }

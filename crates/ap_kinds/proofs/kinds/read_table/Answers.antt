@@ -1,21 +1,35 @@
-use Rattle.std.proofs.Common.{List, map, length, subst, sym}
-use Rattle.ap_defs.specs.declared.terms.Shape.{Shape}
-use Rattle.ap_defs.specs.Types.{shape_of, signature_of}
+use Rattle.std.proofs.Common.{List, length, sym, ap, subst}
+use Rattle.ap_defs.specs.Types.{signature_of}
 use Rattle.ap_types.specs.Triangular.{assignment_of}
-use Rattle.ap_kinds.specs.Reading.{AreFirst}
-use Rattle.ap_kinds.proofs.SolvedLemmas.{read_as, unread_as}
+use Rattle.ap_kinds.specs.declared.read_types.Declared.{Declared}
+use Rattle.ap_kinds.specs.declared.read_types.TypeRead.{TypeRead}
+use Rattle.ap_kinds.specs.ReadTypes.{AreFirstRead, IsDeclaredBy}
+use Rattle.ap_kinds.proofs.PlaceLemmas.{given, given_err}
 use Rattle.ap_kinds.proofs.kinds.read_table.Goals as goal
 
 pub returns-clause-read : goal.returns-clause-read
 returns-clause-read c =
-    let us = assignment_of c.args.table.now in
-    let n = length c.args.idents.now in
-    read_as c.read_inhabited.result (signature_of c.args.sig.now) c.args.idents.now (map shape_of c.as_slice.result.now) us
-    (subst (λ (s : List Shape). AreFirst n (map shape_of s) us) (sym c.as_slice.ensures.value) c.in_ok-shapes.ensures) c.read_inhabited.ensures.read
+    let sig = signature_of c.args.sig.now in
+    let ts = assignment_of c.args.table.now in
+    let by : Declared = record { name_types = length c.items.result.now; data_types = length c.items-2.result.now; inhabitants = c.args.inhabitants } in
+    let declared : IsDeclaredBy by sig = record { name_types = ap length c.items.ensures; data_types = ap length c.items-2.ensures; inhabitants = c.requires.inhabited } in
+    let first = subst (λ (rs : List TypeRead). AreFirstRead by (length c.args.idents.now) ts rs) (sym c.as_slice.ensures.value) c.in_ok-reads.ensures in
+    given c.read_inhabited.result (λ ks k. k by sig ts declared first) c.read_inhabited.ensures.read
+
+pub returns-clause-inhabited : goal.returns-clause-inhabited
+returns-clause-inhabited c =
+    let sig = signature_of c.args.sig.now in
+    let ts = assignment_of c.args.table.now in
+    let by : Declared = record { name_types = length c.items.result.now; data_types = length c.items-2.result.now; inhabitants = c.args.inhabitants } in
+    let declared : IsDeclaredBy by sig = record { name_types = ap length c.items.ensures; data_types = ap length c.items-2.ensures; inhabitants = c.requires.inhabited } in
+    let first = subst (λ (rs : List TypeRead). AreFirstRead by (length c.args.idents.now) ts rs) (sym c.as_slice.ensures.value) c.in_ok-reads.ensures in
+    given c.read_inhabited.result (λ ks k. k by sig ts declared first) c.read_inhabited.ensures.inhabited
 
 pub returns-clause-unread : goal.returns-clause-unread
 returns-clause-unread c =
-    let us = assignment_of c.args.table.now in
-    let n = length c.args.idents.now in
-    unread_as c.read_inhabited.result (signature_of c.args.sig.now) c.args.idents.now (map shape_of c.as_slice.result.now) us
-    (subst (λ (s : List Shape). AreFirst n (map shape_of s) us) (sym c.as_slice.ensures.value) c.in_ok-shapes.ensures) c.read_inhabited.ensures.unread
+    let sig = signature_of c.args.sig.now in
+    let ts = assignment_of c.args.table.now in
+    let by : Declared = record { name_types = length c.items.result.now; data_types = length c.items-2.result.now; inhabitants = c.args.inhabitants } in
+    let declared : IsDeclaredBy by sig = record { name_types = ap length c.items.ensures; data_types = ap length c.items-2.ensures; inhabitants = c.requires.inhabited } in
+    let first = subst (λ (rs : List TypeRead). AreFirstRead by (length c.args.idents.now) ts rs) (sym c.as_slice.ensures.value) c.in_ok-reads.ensures in
+    given_err c.read_inhabited.result (λ e k. k by sig ts declared first) c.read_inhabited.ensures.unread

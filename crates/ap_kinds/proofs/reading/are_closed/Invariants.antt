@@ -1,9 +1,7 @@
--- The shapes so far are closed.
-use Rattle.std.proofs.Common.{◌≡◌, ℕ, ◌<◌, true, map}
-use Rattle.ap_defs.specs.Types.{shape_of}
-use Rattle.ap_types.specs.Solving.{shape_at}
-use Rattle.ap_kinds.specs.Reading.{is_closed}
+-- What was read so far is closed.
+use Rattle.std.proofs.Common.{◌≡◌, ℕ, ◌<◌, true}
+use Rattle.ap_kinds.specs.ReadTypes.{read_at}
 use Rattle.ap_kinds.proofs.reading.are_closed.Given as goal
 
-abbrev pub invariant-loop-x : goal.invariant-loop-x
-invariant-loop-x l = (k : ℕ) → k < l.x → is_closed (shape_at (map shape_of l.holes) k) ≡ true
+abbrev pub invariant-loop-read : goal.invariant-loop-read
+invariant-loop-read l = (k : ℕ) → k < l.read-index → (read_at l.reads k).closed ≡ true

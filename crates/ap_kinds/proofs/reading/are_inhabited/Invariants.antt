@@ -1,10 +1,11 @@
--- Those of all are inhabited where those of the rest are.
-use Rattle.std.proofs.Common.{◌↔◌, List, map, drop}
-use Rattle.ap_defs.specs.Types.{NominalConstructor, kind_of}
-use Rattle.ap_types.specs.Tables.{AreInhabitants}
-use Rattle.ap_program.specs.Typed.{AreInhabited}
+-- The types of all variables are inhabited where those of the rest are.
+use Rattle.std.proofs.Common.{◌≡◌, List, length, drop}
+use Rattle.ap_defs.specs.Types.{TypeShape}
+use Rattle.ap_kinds.specs.declared.read_types.Declared.{Declared}
+use Rattle.ap_kinds.specs.Reading.{read_kinds}
+use Rattle.ap_kinds.specs.ReadTypes.{AreFirstRead, are_inhabited_if, marks_of}
 use Rattle.ap_kinds.proofs.reading.are_inhabited.Given as goal
 
-abbrev pub invariant-loop-kind : goal.invariant-loop-kind
-invariant-loop-kind l =
-    (cs : List NominalConstructor) → AreInhabitants cs l.inhabitants → AreInhabited cs (map kind_of (drop l.kind-index l.kinds)) ↔ AreInhabited cs (map kind_of l.kinds)
+abbrev pub invariant-loop-i : goal.invariant-loop-i
+invariant-loop-i l =
+    (by : Declared) (ts : List TypeShape) → AreFirstRead by (length l.idents) ts l.reads → are_inhabited_if (marks_of by) (read_kinds ts l.i (drop l.i l.idents)) ≡ are_inhabited_if (marks_of by) (read_kinds ts 0 l.idents)

@@ -1,6 +1,7 @@
 use Rattle.std.proofs.Common.{map, string_bytes}
 use Rattle.ap_words.specs.Words.{asked_of}
-use Rattle.ap_top.proofs.Reports.{put_unwritten, put_written, told_report}
+use Rattle.ap_run.proofs.PutLemmas.{put_unwritten, put_written}
+use Rattle.ap_top.proofs.Reports.{told_report}
 use Rattle.ap_top.proofs.call.top.Goals as goal
 
 pub returns-in-Ok-clause-run : goal.returns-in-Ok-clause-run

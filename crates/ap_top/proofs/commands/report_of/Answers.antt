@@ -1,6 +1,6 @@
 use Rattle.std.proofs.Common.{sym, true≢false}
-use Rattle.ap_top.specs.Report.{Over}
-use Rattle.ap_top.proofs.Reports.{both_known}
+use Rattle.ap_run.specs.Inputs.{Over}
+use Rattle.ap_run.proofs.PutLemmas.{both_known}
 use Rattle.ap_top.proofs.commands.report_of.Goals as goal
 
 -- no input is read, so that any will do

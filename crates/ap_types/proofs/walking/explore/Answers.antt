@@ -1,30 +1,24 @@
-use Rattle.std.proofs.Common.{◌≡◌, ◌<◌, true, false, List, length, subst, sym, arith}
+use Rattle.std.proofs.Common.{◌≡◌, true, false, List, subst, sym, arith}
 use Rattle.ap_types.specs.declared.walking.Mark.{Mark}
 use Rattle.ap_types.specs.Triangular.{shapes_of_nodes}
 use Rattle.ap_types.specs.Walking.{is_left, walk_mark_at}
 use Rattle.ap_types.proofs.TableLemmas.{length_table}
-use Rattle.ap_types.proofs.WalkLemmas.{left_already, leaves_at_once, room_at_once}
+use Rattle.ap_types.proofs.WalkLemmas.{left_already, leaves_at_once}
 use Rattle.ap_types.proofs.walking.explore.Goals as goal
 
 pub returns-then-is_left-clause-left : goal.returns-then-is_left-clause-left
 returns-then-is_left-clause-left c =
     let h : true ≡ is_left (walk_mark_at c.args.walk.marks.items c.args.start) = subst (λ (ms : List Mark). true ≡ is_left (walk_mark_at ms c.args.start)) c.as_slice-marks.ensures.value c.if-is_left.ensures in
-    left_already (shapes_of_nodes c.args.nodes.now) c.args.walk.marks.items c.args.walk.left c.args.start c.requires.walk (sym h)
+    left_already (shapes_of_nodes c.args.nodes.now) c.args.walk.marks.items c.args.walk.order.items c.args.start c.requires.walk (sym h)
 
-pub leave-requires-clause-within : goal.leave-requires-clause-within
-leave-requires-clause-within c = omega (arith, c.requires.within, c.requires.walk.as_long, length_table c.args.nodes.now)
+pub leave-requires : goal.leave-requires
+leave-requires c = omega (arith, c.requires.within, c.requires.walk.as_long, length_table c.args.nodes.now)
 
-pub leave-requires-clause-room : goal.leave-requires-clause-room
-leave-requires-clause-room c =
-    let ms = c.args.walk.marks.items in
-    let h : false ≡ is_left (walk_mark_at ms c.args.start) = subst (λ (ns : List Mark). false ≡ is_left (walk_mark_at ns c.args.start)) c.as_slice-marks.ensures.value c.if-is_left.ensures in
-    room_at_once (shapes_of_nodes c.args.nodes.now) ms c.args.walk.left c.args.start c.requires.walk (omega (arith, c.requires.within, length_table c.args.nodes.now)) (sym h)
-
-pub returns-in-None-clause-left : goal.returns-in-None-clause-left
-returns-in-None-clause-left c =
+pub returns-in_ok-leave-in-None-clause-left : goal.returns-in_ok-leave-in-None-clause-left
+returns-in_ok-leave-in-None-clause-left c =
     let ms = c.args.walk.marks.items in
     let value = c.as_slice-marks.ensures.value in
     let h : false ≡ is_left (walk_mark_at ms c.args.start) = subst (λ (ns : List Mark). false ≡ is_left (walk_mark_at ns c.args.start)) value c.if-is_left.ensures in
-    leaves_at_once (shapes_of_nodes c.args.nodes.now) ms c.leave.result.marks.items c.args.walk.left c.leave.result.left c.args.start c.requires.walk
+    leaves_at_once (shapes_of_nodes c.args.nodes.now) ms c.in_ok-leave-in-None.field-0.marks.items c.args.walk.order.items c.in_ok-leave-in-None.field-0.order.items c.args.start c.requires.walk
     (omega (arith, c.requires.within, length_table c.args.nodes.now)) (sym h) (λ d p. subst (λ (ns : List Mark). is_left (walk_mark_at ns d) ≡ true) value (c.in-None.ensures d p))
-    c.leave.ensures.marks c.leave.ensures.left
+    c.in_ok-leave-in-None.ensures.marks c.in_ok-leave-in-None.ensures.order

@@ -1,18 +1,14 @@
-use Rattle.std.proofs.Common.{◌≡◌, ◌≤◌, ap, arith, rules}
-use Rattle.ap_defs.specs.Types.{pair, type_of}
-use Rattle.ap_defs.specs.Weights.{type_weight}
-use Rattle.ap_defs.specs.declared.terms.Ty.{Ty}
+use Rattle.std.proofs.Common.{subst, arith}
+use Rattle.ap_defs.specs.Lefts.{LeftsBelow}
 use Rattle.ap_defs.specs.declared.terms.Ty.TheViews.{size-Ty}
-use Rattle.ap_defs.proofs.TypeWeights.{leaf_lighter}
+use Rattle.ap_defs.proofs.LeftLemmas.{lefts_below}
 use Rattle.ap_defs.proofs.terms.Ty.+drop.Goals as goal
 
-pub drop-left-requires : goal.drop-left-requires
-drop-left-requires t c κs =
-    let d = type_of c.in-Pair.left.value in
-    let e = type_of c.in-Pair.right.value in
-    let i = c.loop-self.invariant in
-    let w : type_weight (type_of c.loop-self.self) ≡ type_weight (pair d e) = ap (λ (x : Ty). type_weight (type_of x)) c.in-Pair.is in
-    let h : type_weight (pair d e) ≤ type_weight (type_of c.args.self) = omega (arith, i, w) in
-    let l = leaf_lighter c.turn_type.new.left c.args.self d e (c.turn_type.ensures.leaf c.if-turn_type.false).1 h in
-    let s : size-Ty c.args.self ≡ t = c.decreases in
-    (((omega (arith, l, s), tt), tt), (search rules, search rules))
+pub loop-self-init : goal.loop-self-init
+loop-self-init t c = lefts_below (size-Ty c.args.self) c.args.self (omega arith)
+
+pub loop-self-preserved-then-turn_owned : goal.loop-self-preserved-then-turn_owned
+loop-self-preserved-then-turn_owned t c =
+    let n = size-Ty c.args.self in
+    let i = subst (LeftsBelow n) c.in-Pair.is c.loop-self.invariant in
+    c.turn_owned.ensures.lefts n c.if-turn_owned.true i.0 i.1

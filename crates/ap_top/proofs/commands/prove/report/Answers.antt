@@ -1,5 +1,5 @@
-use Rattle.ap_top.specs.Report.{Whole}
-use Rattle.ap_top.proofs.Reports.{both_known}
+use Rattle.ap_run.specs.Inputs.{Whole}
+use Rattle.ap_run.proofs.PutLemmas.{both_known}
 use Rattle.ap_top.proofs.commands.prove.report.Goals as goal
 
 pub returns-in-Ok : goal.returns-in-Ok

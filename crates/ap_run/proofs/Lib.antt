@@ -1,0 +1,3 @@
+pub mod PutLemmas
+mod RunLemmas
+mod Wrote

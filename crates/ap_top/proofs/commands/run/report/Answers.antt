@@ -1,6 +1,0 @@
-use Rattle.ap_top.specs.Report.{Whole}
-use Rattle.ap_top.proofs.Reports.{both_known}
-use Rattle.ap_top.proofs.commands.run.report.Goals as goal
-
-pub returns-in-Ok : goal.returns-in-Ok
-returns-in-Ok g c = both_known _ _ _ c.report_text.result (λ r made only. (Whole c.in-Ok.text.items, c.in-Ok.ensures.whole, (rw c.deref.ensures.value at made, rw c.deref.ensures.value at only))) c.report_text.ensures.made c.report_text.ensures.only
