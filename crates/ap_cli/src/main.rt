@@ -2,7 +2,7 @@
 //! exit status.
 #![tactic(auto)]
 
-use ap_beside::{Counting, Remembering, given_words, say};
+use ap_beside::{Counting, Remembering, given_words, keep_memory, say};
 use ap_io::{NoGate, StdSink, StdSource};
 use ap_remarks::Tally;
 use ap_top::{Status, top};
@@ -40,6 +40,7 @@ fn run<R: Threads + Wait + Sync + AllocGlobal + Input + Print + Eprint>(
     words: &[String],
 ) -> Status {
     let alloc = rt.alloc();
+    keep_memory(alloc);
     let input = StdSource::new(rt.reader());
     let mut source = if reads_bundle(words) {
         Remembering::without_copy(alloc, input)

@@ -3,7 +3,7 @@
 //! commands, so it is sooner proved.
 #![tactic(auto)]
 
-use ap_beside::{Counting, Remembering, given_words, say};
+use ap_beside::{Counting, Remembering, given_words, keep_memory, say};
 use ap_io::{NoGate, StdSink, StdSource};
 use ap_run::Status;
 use std::process::ExitCode;
@@ -21,6 +21,7 @@ fn run<R: Threads + Wait + Sync + AllocGlobal + Input + Print + Eprint>(
     words: &[String],
 ) -> Status {
     let alloc = rt.alloc();
+    keep_memory(alloc);
     let mut source = Remembering::new(alloc, StdSource::new(rt.reader()));
     let mut sink = Counting::new(StdSink::new(io::writer(rt)));
     let status = ap_run::run(rt, alloc, words, &mut source, &mut sink, &NoGate);
