@@ -14,6 +14,7 @@ use Rattle.ap_defs.specs.Unification.{size}
 use Rattle.ap_defs.specs.Printing.{Spelling, TermContext, whole, part, rest, cell, arguments, barred, constructor_in, constructor_text, argument_count, application_text, swaps_text, term_at}
 use Rattle.ap_answers.specs.Places.{pair_opening, pair_closing, between, part_after, arguments_opening, arguments_closing, arguments_place, declared_opening, declared_closing, declared_place, opening, closing, argument_place}
 use Rattle.ap_answers.specs.Swappings.{heads_text}
+use Rattle.ap_answers.specs.Writing.{closed_text}
 
 at_place : (cs : List Constructor) (f : ℕ) → option_map constructor_of (slice_get cs f) ≡ constructor_in (map constructor_of cs) (suc (suc f))
 at_place [] f = refl
@@ -58,10 +59,6 @@ swappings_round names (s ∷ p) text =
 pub swappings_written : (names : Name → List ℕ) (p : List Swap) (text o o1 o2 o3 : List ℕ) (n : ℕ) → o1 ≡ o ++ heads_text names p → o2 ≡ o1 ++ text → o3 ≡ o2 ++ replicate n 41 → n ≡ length p → o3 ≡ o ++ swaps_text names p text
 swappings_written names p text o o1 o2 o3 n a b d e = rw (d, b, a, e) (simp append_assoc (ap (λ bs. o ++ bs) (swappings_round names p text)))
 
--- What is written, what is left of a term, and what is kept, in the order in which they will stand.
-abbrev pub all_text : Spelling → List ℕ → NominalTerm → TermContext → List ℕ → List ℕ
-all_text by out t place closers = out ++ (term_at by t place ++ reverse closers)
-
 pair_parts : (by : Spelling) (t u : NominalTerm) (place : TermContext)
     → term_at by (pair t u) place ≡ pair_opening place ++ (term_at by t whole ++ (between place ++ (term_at by u (part_after place) ++ pair_closing place)))
 pair_parts by t u whole = simp append_assoc
@@ -83,7 +80,7 @@ pair_closing_turned (arguments (suc (suc n))) = refl
 
 pub pair_goes_on : (by : Spelling) (w t u : NominalTerm) (place : TermContext) (o o1 o2 o3 k k1 : List ℕ) → w ≡ pair t u
     → o1 ≡ o ++ pair_opening place → k1 ≡ k ++ pair_closing place → o2 ≡ o1 ++ term_at by t whole → o3 ≡ o2 ++ between place
-    → all_text by o3 u (part_after place) k1 ≡ all_text by o w place k
+    → closed_text by o3 u (part_after place) k1 ≡ closed_text by o w place k
 pair_goes_on by w t u place o o1 o2 o3 k k1 e a b d f =
     rw (f, d, a, b, e, pair_parts by t u place, reverse-append k (pair_closing place), pair_closing_turned place) (simp append_assoc)
 
@@ -129,18 +126,18 @@ closing_turned cs (suc (suc f)) place = arguments_closing_turned (argument_count
 
 pub app_goes_on : (by : Spelling) (w : NominalTerm) (f : ℕ) (t : NominalTerm) (place : TermContext) (next : TermContext) (o o1 k k1 : List ℕ) → w ≡ app f t
     → o1 ≡ o ++ opening by.constructors f place → k1 ≡ k ++ closing by.constructors f place → Some next ≡ argument_place by.constructors f
-    → all_text by o1 t next k1 ≡ all_text by o w place k
+    → closed_text by o1 t next k1 ≡ closed_text by o w place k
 app_goes_on by w f t place next o o1 k k1 e a b d =
     rw (a, b, e, app_parts by f t place, reverse-append k (closing by.constructors f place), closing_turned by.constructors f place, ← d) (simp append_assoc)
 
 pub app_ends : (by : Spelling) (w : NominalTerm) (f : ℕ) (t : NominalTerm) (place : TermContext) (o o1 o2 k k1 : List ℕ) → w ≡ app f t
     → o1 ≡ o ++ opening by.constructors f place → k1 ≡ k ++ closing by.constructors f place → None ≡ argument_place by.constructors f
-    → o1 ++ reverse k1 ≡ all_text by o w place k
+    → o1 ++ reverse k1 ≡ closed_text by o w place k
 app_ends by w f t place o o1 o2 k k1 e a b d =
     rw (a, b, e, app_parts by f t place, reverse-append k (closing by.constructors f place), closing_turned by.constructors f place, ← d) (simp append_assoc)
 
 pub abs_goes_on : (by : Spelling) (w : NominalTerm) (a : Name) (t : NominalTerm) (place : TermContext) (o o1 k : List ℕ) → w ≡ abs a t
-    → o1 ≡ o ++ barred place (by.names a ++ codes "\\") → all_text by o1 t whole k ≡ all_text by o w place k
+    → o1 ≡ o ++ barred place (by.names a ++ codes "\\") → closed_text by o1 t whole k ≡ closed_text by o w place k
 abs_goes_on by w a t place o o1 k e h =
     rw (h, e, barred_front place (by.names a ++ codes "\\"), barred_front place (by.names a ++ codes "\\" ++ term_at by t whole)) (simp append_assoc)
 
@@ -148,7 +145,7 @@ abs_goes_on by w a t place o o1 k e h =
 pub behind_bar : (place : TermContext) (text o o1 o2 : List ℕ) → o1 ≡ o ++ barred place [] → o2 ≡ o1 ++ text → o2 ≡ o ++ barred place text
 behind_bar place text o o1 o2 a b = rw (b, a, barred_front place text) (simp append_assoc)
 
-pub ends : (by : Spelling) (t : NominalTerm) (place : TermContext) (o o1 k all : List ℕ) → all_text by o t place k ≡ all → o1 ≡ o ++ term_at by t place → o1 ++ reverse k ≡ all
+pub ends : (by : Spelling) (t : NominalTerm) (place : TermContext) (o o1 k all : List ℕ) → closed_text by o t place k ≡ all → o1 ≡ o ++ term_at by t place → o1 ++ reverse k ≡ all
 ends by t place o o1 k all e h = rw h (append_assoc o (term_at by t place) (reverse k) ∙ e)
 
 pub size_left : (w t u : NominalTerm) (n : ℕ) → w ≡ pair t u → size w ≤ n → size t < n

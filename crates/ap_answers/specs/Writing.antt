@@ -1,14 +1,18 @@
 -- Terms while they are written.
 use Rattle.std.specs.Prelude.{ℕ, ◌+◌, ◌*◌, List, [], ◌∷◌, ◌++◌, Option, None, Some, reverse}
-use Rattle.ap_defs.specs.Printing.{Spelling, term_at}
-use Rattle.ap_defs.specs.Terms.{term_of}
+use Rattle.ap_defs.specs.Printing.{Spelling, TermContext, term_at}
+use Rattle.ap_defs.specs.Terms.{NominalTerm, term_of}
 use Rattle.ap_defs.specs.Unification.{size}
 use Rattle.ap_answers.specs.Places.{between, part_after, written_place}
 use Rattle.ap_answers.specs.declared.text.Part.{Part}
 
+-- behind what is written: a term at a place, and behind that what is kept, the last first
+abbrev pub closed_text : Spelling → List ℕ → NominalTerm → TermContext → List ℕ → List ℕ
+closed_text by out t place closers = out ++ (term_at by t place ++ reverse closers)
+
 -- behind what is written: a part, and what stands behind that
 abbrev pub part_text : Spelling → List ℕ → Part → List ℕ
-part_text by out p = out ++ (term_at by (term_of p.term.now) (written_place p.place) ++ reverse p.closers.items)
+part_text by out p = closed_text by out (term_of p.term.now) (written_place p.place) p.closers.items
 
 -- behind the left part of a pair at this place: the right one, and what stands behind that
 abbrev pub right_text : Spelling → List ℕ → Part → List ℕ

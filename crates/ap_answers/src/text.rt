@@ -1,14 +1,15 @@
 //! The text of terms.
 
-ghost use Rattle.std.specs.Prelude.{◌≡◌, ◌<◌, ◌+◌, ◌++◌, [], ◌∷◌, codes, reverse, map, Some, OnOk, IfOk};
+ghost use Rattle.std.specs.Prelude.{◌≡◌, ◌<◌, ◌+◌, ◌*◌, ◌++◌, [], ◌∷◌, codes, reverse, map, Some, OnOk, IfOk};
 ghost use Rattle.std.specs.Option.{option_map};
-ghost use Rattle.ap_defs.specs.Terms.{term_of};
+ghost use Rattle.ap_defs.specs.Terms.{app, pair, term_of};
+ghost use Rattle.ap_defs.specs.Unification.{size};
 ghost use Rattle.ap_defs.specs.Printing.{Spelling, barred, swaps_text, term_at};
 ghost use Rattle.ap_answers.specs.Spelled.{spelling_in};
 ghost use Rattle.ap_answers.specs.Places.{written_place, pair_opening, pair_closing, cell_opening, cell_closing, declared_opening, declared_closing, declared_place, opening, closing, argument_place};
 ghost use Rattle.ap_defs.specs.Types.{constructor_of};
 ghost use Rattle.ap_answers.specs.Swappings.{heads_text};
-ghost use Rattle.ap_answers.specs.Writing.{part_text, right_text, text_left, waiting_text, part_work, next_work, waiting_work};
+ghost use Rattle.ap_answers.specs.Writing.{closed_text, part_text, right_text, text_left, waiting_text, part_work, next_work, waiting_work};
 
 use crate::place::{Place, parenthesized, write_bar, write_between, write_nil, write_unit};
 use crate::speller::Speller;
@@ -198,6 +199,104 @@ struct Part<'a> {
     closers: Vec<u8>,
 }
 
+/// Writes a name at a place.
+#[tactic(auto, using(crate::proofs::TextLemmas::behind_bar))]
+fn write_name_at(
+    out: &mut Vec<u8>,
+    by: &Speller<'_>,
+    name: Name,
+    place: Place,
+) -> Result<(), Memory>
+    ensures { OnOk result (out.new.items
+        ≡ out.old.items ++ barred (written_place place) ((spelling_in by.now).names name)) }
+{
+    write_bar(out, place)?;
+    by.write_name(out, name)
+}
+
+/// Writes a variable inside swappings at a place.
+#[tactic(auto, using(crate::proofs::TextLemmas::behind_bar))]
+fn write_variable_at(
+    out: &mut Vec<u8>,
+    by: &Speller<'_>,
+    swaps: &[Swap],
+    var: Var,
+    place: Place,
+) -> Result<(), Memory>
+    ensures { OnOk result (out.new.items
+        ≡ out.old.items ++ barred (written_place place)
+        (swaps_text (spelling_in by.now).names swaps.now ((spelling_in by.now).vars var))) }
+{
+    write_bar(out, place)?;
+    write_suspension(out, by, swaps, var)
+}
+
+/// Writes what stands before the left part of a pair, which comes next. The right part, at the place of the pair,
+/// waits.
+fn write_pair<'a>(
+    alloc: Global,
+    out: &mut Vec<u8>,
+    waiting: &mut Vec<Part<'a>>,
+    left: &'a Term,
+    right: Part<'a>,
+) -> Result<Part<'a>, Memory>
+    ensures written { IfOk result (λ next. (by : Spelling)
+        → waiting_text by (part_text by out.new.items next) waiting.new.items
+        ≡ waiting_text by (closed_text by out.old.items
+        (pair (term_of left.now) (term_of right.entry.term.now)) (written_place right.entry.place)
+        right.entry.closers.items) waiting.old.items) }
+    ensures less { IfOk result (λ next. waiting_work waiting.new.items + part_work next
+        < waiting_work waiting.old.items
+        + 2 * size (pair (term_of left.now) (term_of right.entry.term.now))) }
+{
+    let Part {
+        term,
+        place,
+        mut closers,
+    } = right;
+    begin_pair(out, &mut closers, place)?;
+    waiting.push(Part {
+        term,
+        place,
+        closers,
+    })?;
+    Ok(Part {
+        term: left,
+        place: Place::Whole,
+        closers: Vec::new(alloc),
+    })
+}
+
+/// Writes what stands before the argument of an application, which comes next; the whole of one that is written
+/// without its argument.
+fn write_application<'a>(
+    out: &mut Vec<u8>,
+    by: &Speller<'_>,
+    f: u32,
+    argument: Part<'a>,
+) -> Result<Option<Part<'a>>, Memory>
+    ensures written { IfOk result (λ next. text_left (spelling_in by.now) out.new.items [] next
+        ≡ closed_text (spelling_in by.now) out.old.items (app f (term_of argument.entry.term.now))
+        (written_place argument.entry.place) argument.entry.closers.items) }
+    ensures less { IfOk result (λ next. next_work next
+        < 2 * size (app f (term_of argument.entry.term.now))) }
+{
+    let Part {
+        term,
+        place,
+        mut closers,
+    } = argument;
+    if let Some(place) = begin_application(out, &mut closers, by.constructors, f, place)? {
+        return Ok(Some(Part {
+            term,
+            place,
+            closers,
+        }));
+    }
+    write_closers(out, closers)?;
+    Ok(None)
+}
+
 /// Writes what stands at a part before its own parts, and what stands behind it where it has none. The next part
 /// is its first one; the right part of a pair waits.
 fn write_part<'a>(
@@ -205,7 +304,7 @@ fn write_part<'a>(
     out: &mut Vec<u8>,
     by: &Speller<'_>,
     waiting: &mut Vec<Part<'a>>,
-    part: Part<'a>,
+    mut part: Part<'a>,
 ) -> Result<Option<Part<'a>>, Memory>
     ensures written { IfOk result (λ next.
         text_left (spelling_in by.now) out.new.items waiting.new.items next
@@ -214,57 +313,28 @@ fn write_part<'a>(
     ensures less { IfOk result (λ next. waiting_work waiting.new.items + next_work next
         < waiting_work waiting.old.items + part_work part.entry) }
 {
-    let Part {
-        term,
-        place,
-        mut closers,
-    } = part;
+    let term = part.term;
     match term {
-        Term::Unit => write_unit(out, place)?,
-        Term::Name(name) => {
-            write_bar(out, place)?;
-            by.write_name(out, *name)?;
-        }
-        Term::Susp(swaps, var) => {
-            write_bar(out, place)?;
-            write_suspension(out, by, swaps.items(), *var)?;
-        }
+        Term::Unit => write_unit(out, part.place)?,
+        Term::Name(name) => write_name_at(out, by, *name, part.place)?,
+        Term::Susp(swaps, var) => write_variable_at(out, by, swaps.items(), *var, part.place)?,
         Term::Pair(left, right) => {
-            begin_pair(out, &mut closers, place)?;
-            waiting.push(Part {
-                term: right,
-                place,
-                closers,
-            })?;
-            return Ok(Some(Part {
-                term: left,
-                place: Place::Whole,
-                closers: Vec::new(alloc),
-            }));
+            part.term = right;
+            return Ok(Some(write_pair(alloc, out, waiting, left, part)?));
         }
         Term::App(f, argument) => {
-            if let Some(place) = begin_application(out, &mut closers, by.constructors, *f, place)? {
-                return Ok(Some(Part {
-                    term: argument,
-                    place,
-                    closers,
-                }));
-            }
+            part.term = argument;
+            return write_application(out, by, *f, part);
         }
         Term::Abs(sort, num, body) => {
-            let name = Name {
-                sort: *sort,
-                num: *num,
-            };
-            begin_abstraction(out, by, name, place)?;
-            return Ok(Some(Part {
-                term: body,
-                place: Place::Whole,
-                closers,
-            }));
+            let (sort, num) = (*sort, *num);
+            begin_abstraction(out, by, Name { sort, num }, part.place)?;
+            part.term = body;
+            part.place = Place::Whole;
+            return Ok(Some(part));
         }
     }
-    write_closers(out, closers)?;
+    write_closers(out, part.closers)?;
     Ok(None)
 }
 

@@ -7,7 +7,7 @@ use Rattle.ap_defs.proofs.lists.List.TheSendSync.{the_sync as list}
 use Rattle.ap_defs.proofs.lists.Text.TheSendSync.{the_sync as text}
 use Rattle.ap_defs.proofs.goals.Goal.TheLaws.TheKnot.{crosses as goal}
 use Rattle.ap_defs.proofs.terms.Term.TheLaws.TheKnot.{crosses as term}
-use Rattle.ap_defs.proofs.terms.Ty.TheLaws.TheKnot.{crosses as ty}
+use Rattle.ap_defs.proofs.terms.Ty.TheLaws.TheKnot.{crosses_both as ty}
 use Rattle.ap_program.proofs.Shared.{restricted_sync}
 use Rattle.ap_index.specs.contracts.predicate.Predicate as P
 use Rattle.ap_index.specs.contracts.index.Index as I

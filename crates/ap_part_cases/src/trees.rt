@@ -1,7 +1,7 @@
 //! Trees of terms, types, goals and items, spelled out as their constructors.
 
 use ap_defs::lists::List;
-use ap_trees::{Args, Binder, Form, GoalTree, Sides, Tree, TypeTree};
+use ap_trees::{Application, Args, Binder, Form, GoalTree, Sides, Tree, TypeTree};
 use std::alloc::{AllocError, Global};
 
 fn push_binder(alloc: Global, out: &mut String, binder: &Binder<'_>) -> Result<(), AllocError> {
@@ -95,7 +95,10 @@ pub fn push_tree(alloc: Global, out: &mut String, tree: &Tree<'_>) -> Result<(),
         Tree::Nil => Ok(out.push_str("Nil")?),
         Tree::Var(word) => push_worded(alloc, out, "Var", word),
         Tree::Word(word) => push_worded(alloc, out, "Word", word),
-        Tree::Apply(word, args) => push_applied(alloc, out, word, args),
+        Tree::Apply(applied) => {
+            let Application::To(word, args) = &**applied;
+            push_applied(alloc, out, word, args)
+        }
         Tree::Pair(left, right) => {
             out.push_str("Pair(")?;
             push_tree(alloc, out, left)?;

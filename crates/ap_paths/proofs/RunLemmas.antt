@@ -1,5 +1,5 @@
 -- Runs of outputs one after another.
-use Rattle.std.proofs.Common.{◌≡◌, ℕ, zero, suc, ◌+◌, ◌-◌, ◌<◌, ◌≤◌, ◌==◌, true, List, [], ◌∷◌, ◌++◌, length, map, replicate, append-nil, append_assoc, refl, sym, ap, ◌∙◌, eqb-true, arith}
+use Rattle.std.proofs.Common.{◌≡◌, ℕ, zero, suc, ◌+◌, ◌-◌, ◌<◌, ◌≤◌, ◌==◌, true, List, [], ◌∷◌, ◌++◌, get_or, length, map, replicate, set, append-nil, append_assoc, refl, sym, ap, ◌∙◌, eqb-true, arith}
 use Rattle.std.proofs.lemmas.List.{map-append}
 use Rattle.ap_defs.specs.Answers.{NominalOut, cut, out_of, outs_of, stuck}
 use Rattle.ap_defs.specs.declared.paths.Out.{Out}
@@ -16,12 +16,25 @@ run_added old new r os grown is =
     ap outs_of_runs grown ∙ runs_both old (r ∷ []) ∙ ap (λ xs. outs_of_runs old ++ xs) (append-nil (outs_of_run r) ∙ is)
 
 -- the run at the end went on
-pub run_joined : (old front new : List Run) (last both : Run) (os : List NominalOut) → old ≡ front ++ last ∷ [] → new ≡ front ++ both ∷ [] → outs_of_run both ≡ outs_of_run last ++ os
-    → outs_of_runs new ≡ outs_of_runs old ++ os
-run_joined old front new last both os was is joined =
-    run_added front new both (outs_of_run last ++ os) is joined
-    ∙ sym (append_assoc (outs_of_runs front) (outs_of_run last) os)
-    ∙ ap (λ xs. xs ++ os) (sym (run_added front old last (outs_of_run last) was refl))
+pub run_joined : (old : List Run) (n : ℕ) (last both : Run) (os : List NominalOut) → n ≡ length old → 0 < length old → last ≡ get_or old (n - 1) last → outs_of_run both ≡ outs_of_run last ++ os
+    → outs_of_runs (set old (n - 1) both) ≡ outs_of_runs old ++ os
+run_joined [] n last both os l h e joined = absurd (omega (arith, h))
+run_joined (x ∷ []) n last both os l h e joined =
+    let i : n - 1 ≡ 0 = omega (arith, l) in
+    let is : last ≡ x = e ∙ ap (λ k. get_or (x ∷ []) k last) i in
+    ap (λ k. outs_of_runs (set (x ∷ []) k both)) i ∙ append-nil (outs_of_run both) ∙ joined
+    ∙ ap (λ r. outs_of_run r ++ os) is ∙ ap (λ xs. xs ++ os) (sym (append-nil (outs_of_run x)))
+run_joined (x ∷ y ∷ ys) n last both os l h e joined =
+    let i : n - 1 ≡ suc (length (y ∷ ys) - 1) = omega (arith, l) in
+    let some : 0 < length (y ∷ ys) = omega arith in
+    let behind = run_joined (y ∷ ys) (length (y ∷ ys)) last both os refl some (e ∙ ap (λ k. get_or (x ∷ y ∷ ys) k last) i) joined in
+    ap (λ k. outs_of_runs (set (x ∷ y ∷ ys) k both)) i ∙ ap (λ xs. outs_of_run x ++ xs) behind ∙ sym (append_assoc (outs_of_run x) (outs_of_runs (y ∷ ys)) os)
+
+-- a run is put where it stood
+pub run_kept : (old : List Run) (i : ℕ) (r : Run) → r ≡ get_or old i r → outs_of_runs (set old i r) ≡ outs_of_runs old
+run_kept [] i r e = refl
+run_kept (x ∷ xs) zero r e = ap (λ y. outs_of_run y ++ outs_of_runs xs) e
+run_kept (x ∷ xs) (suc i) r e = ap (λ os. outs_of_run x ++ os) (run_kept xs i r e)
 
 -- the empty path has no choices
 pub no_choices : (p : List ℕ) → (length p == 0) ≡ true → p ≡ []

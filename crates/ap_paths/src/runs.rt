@@ -78,15 +78,12 @@ pub fn push_run(runs: &mut Vec<Run>, out: Out) -> Result<(), Memory>
         ≡ outs_of_runs runs.old.items ++ out_of out ∷ []) }
 {
     let run = run_of(out);
-    let Some(last) = runs.pop() else {
-        runs.push(run)?;
-        return Ok(());
-    };
-    if let Some(both) = joined(&last, &run) {
-        runs.push(both)?;
-        return Ok(());
+    if let Some(last) = runs.last_mut() {
+        if let Some(both) = joined(last, &run) {
+            *last = both;
+            return Ok(());
+        }
     }
-    runs.push(last)?;
     runs.push(run)?;
     Ok(())
 }

@@ -6,7 +6,7 @@ use Rattle.ap_defs.proofs.lists.List.TheSendSync.{the_sync as list}
 use Rattle.ap_defs.proofs.lists.Text.TheSendSync.{the_sync as text}
 use Rattle.ap_defs.proofs.goals.Goal.TheLaws.TheKnot.{crosses as goal}
 use Rattle.ap_defs.proofs.terms.Term.TheLaws.TheKnot.{crosses as term}
-use Rattle.ap_defs.proofs.terms.Ty.TheLaws.TheKnot.{crosses as ty}
+use Rattle.ap_defs.proofs.terms.Ty.TheLaws.TheKnot.{crosses_both as ty}
 use Rattle.ap_program.specs.contracts.restricted.Restricted.{the_row}
 
 pub restricted_sync : IsSync the_row

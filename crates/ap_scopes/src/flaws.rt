@@ -6,7 +6,7 @@ ghost use Rattle.ap_scopes.specs.Views.{declared_of, IsIndexed};
 
 use crate::declarations::Declarations;
 use ap_defs::faults::TypeKind;
-use ap_trees::{Args, Binder, Tree};
+use ap_trees::{Application, Args, Binder, Tree};
 
 /// The kind of the lesser number.
 fn lesser(first: TypeKind, second: TypeKind) -> TypeKind
@@ -90,7 +90,8 @@ pub fn term_flaw(declared: &Declarations<'_>, tree: &Tree<'_>) -> Option<TypeKin
         match rest {
             Tree::Unit | Tree::Nil | Tree::Var(_) => return flaw,
             Tree::Word(word) => return least(flaw, word_flaw(declared.constructor_arity(word))),
-            Tree::Apply(word, args) => {
+            Tree::Apply(applied) => {
+                let Application::To(word, args) = &**applied;
                 let head = application_flaw(declared.constructor_arity(word), args);
                 return least(flaw, least(head, arguments_flaw(declared, args)));
             }
@@ -103,7 +104,7 @@ pub fn term_flaw(declared: &Declarations<'_>, tree: &Tree<'_>) -> Option<TypeKin
                 rest = tail;
             }
             Tree::Abs(binder, body) => {
-                flaw = least(flaw, binder_flaw(declared, *binder));
+                flaw = least(flaw, binder_flaw(declared, **binder));
                 rest = body;
             }
             Tree::Swapped(sides, body) => {

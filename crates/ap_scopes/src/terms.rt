@@ -16,7 +16,7 @@ use ap_defs::lists::List;
 use ap_defs::memory::Memory;
 use ap_defs::terms::{Id, Name, Raw, Var};
 use ap_spines::{RawLayer, close_raw, raw_abs, raw_pair, swapping_layer};
-use ap_trees::{Args, Binder, Tree};
+use ap_trees::{Application, Args, Binder, Tree};
 use std::alloc::Global;
 
 /// A binder, or a place of a swapping.
@@ -93,7 +93,7 @@ fn word_alone<'a>(
 fn goes_on(tree: &Tree<'_>) -> bool {
     match tree {
         Tree::Pair(_, _) | Tree::Cell(_, _) | Tree::Abs(_, _) | Tree::Swapped(_, _) => true,
-        Tree::Unit | Tree::Nil | Tree::Var(_) | Tree::Word(_) | Tree::Apply(_, _) => false,
+        Tree::Unit | Tree::Nil | Tree::Var(_) | Tree::Word(_) | Tree::Apply(_) => false,
     }
 }
 
@@ -120,12 +120,15 @@ pub fn resolved_term<'a>(
         Tree::Unit => Ok(Raw::Unit),
         Tree::Var(word) => identifier(scope, Binder::Var(word), found),
         Tree::Word(word) => word_alone(alloc, declared, scope, word, found),
-        Tree::Apply(word, args) => resolved_application(alloc, declared, scope, word, args, found),
+        Tree::Apply(applied) => {
+            let Application::To(word, args) = &**applied;
+            resolved_application(alloc, declared, scope, word, args, found)
+        }
         Tree::Abs(spelling, body) => {
             if goes_on(body) {
                 return resolved_spine(alloc, declared, scope, tree, found);
             }
-            resolved_abstraction(alloc, declared, scope, *spelling, body, found)
+            resolved_abstraction(alloc, declared, scope, **spelling, body, found)
         }
         _ => resolved_spine(alloc, declared, scope, tree, found),
     }
@@ -226,7 +229,8 @@ fn innermost_term<'a>(
             Tree::Nil => return Ok(Raw::App(0, Box::new(alloc, Raw::Unit)?)),
             Tree::Var(word) => return identifier(scope, Binder::Var(word), found),
             Tree::Word(word) => return word_alone(alloc, declared, scope, word, found),
-            Tree::Apply(word, args) => {
+            Tree::Apply(applied) => {
+                let Application::To(word, args) = &**applied;
                 return resolved_application(alloc, declared, scope, word, args, found);
             }
             Tree::Pair(left, right) => {
@@ -238,7 +242,7 @@ fn innermost_term<'a>(
                 rest = tail;
             }
             Tree::Abs(spelling, body) => {
-                layers.push(RawLayer::Abs(binder(scope, *spelling, found)?))?;
+                layers.push(RawLayer::Abs(binder(scope, **spelling, found)?))?;
                 rest = body;
             }
             Tree::Swapped(sides, body) => {

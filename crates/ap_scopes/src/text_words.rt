@@ -8,7 +8,7 @@ ghost use Rattle.ap_scopes.specs.Views.{words_in};
 
 use crate::words::Words;
 use ap_defs::memory::Memory;
-use ap_trees::{Args, Binder, Form, GoalTree, Tree, TypeTree};
+use ap_trees::{Application, Args, Binder, Form, GoalTree, Tree, TypeTree};
 
 fn spelled<'a>(binder: Binder<'a>) -> &'a str
     ensures { result.now ≡ spec.spelled_name (name_of_binder binder.entry) }
@@ -70,7 +70,8 @@ fn add_term<'a>(words: &mut Words<'a>, tree: &Tree<'a>) -> Result<(), Memory>
             Tree::Unit | Tree::Nil => return Ok(()),
             Tree::Var(word) => return words.add(word),
             Tree::Word(word) => return words.add(word),
-            Tree::Apply(word, args) => {
+            Tree::Apply(applied) => {
+                let Application::To(word, args) = &**applied;
                 words.add(word)?;
                 return add_arguments(words, args);
             }
@@ -83,7 +84,7 @@ fn add_term<'a>(words: &mut Words<'a>, tree: &Tree<'a>) -> Result<(), Memory>
                 rest = tail;
             }
             Tree::Abs(binder, body) => {
-                words.add(spelled(*binder))?;
+                words.add(spelled(**binder))?;
                 rest = body;
             }
             Tree::Swapped(sides, body) => {

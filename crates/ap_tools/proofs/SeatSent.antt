@@ -11,7 +11,7 @@ use Rattle.ap_defs.proofs.terms.Cond.TheSendSync.{the_send as cond}
 use Rattle.ap_defs.proofs.terms.Swap.TheSendSync.{the_send as swap}
 use Rattle.ap_defs.proofs.terms.Var.TheSendSync.{the_send as var}
 use Rattle.ap_defs.proofs.terms.Term.TheLaws.TheKnot.{crosses as term}
-use Rattle.ap_defs.proofs.terms.Ty.TheLaws.TheKnot.{crosses as ty}
+use Rattle.ap_defs.proofs.terms.Ty.TheLaws.TheKnot.{crosses_both as ty}
 use Rattle.std.proofs.collections.HashSet.TheSendSync.{the_send as set}
 use Rattle.ap_paths.specs.contracts.entries.Entry as E
 use Rattle.ap_paths.specs.contracts.runs.Run as R
@@ -23,7 +23,7 @@ use Rattle.atomic_table.proofs.shared.Shared.TheSendSync.{the_sync as shared}
 use Rattle.atomic_table.proofs.send_lease.SendLease.TheSendSync.{the_sync as lease}
 
 run_send : IsSend R.the_row
-run_send = search (sendable, crosses, maps, list, path, cond, swap, var, term, ty) depth 20
+run_send = search (sendable, crosses, maps, list, path, cond, swap, var, term, ty) depth 40
 
 entry_send : IsSend E.the_row
 entry_send = search (sendable, crosses, maps, list, path, run_send) depth 20

@@ -5,6 +5,7 @@ use Rattle.ap_trees.specs.declared.trees.Binder.{Binder}
 use Rattle.ap_trees.specs.declared.trees.Binder.TheVariants as binders
 use Rattle.ap_trees.specs.declared.trees.Tree.{Tree}
 use Rattle.ap_trees.specs.declared.trees.Tree as code
+use Rattle.ap_trees.specs.declared.trees.Application as application
 use Rattle.ap_trees.specs.declared.trees.Args as args
 use Rattle.ap_trees.specs.declared.trees.TypeTree.{TypeTree}
 use Rattle.ap_trees.specs.declared.trees.TypeTree as code_types
@@ -41,12 +42,15 @@ abbrev mutual
   term_of code.Unit = terms.Unit
   term_of (code.Var w) = terms.Variable w.now
   term_of (code.Word w) = terms.Word w.now
-  term_of (code.Apply' w p rest) = terms.Apply w.now (terms_of rest)
+  term_of (code.Apply' p applied) = term_applied applied
   term_of (code.Pair' p left q right) = terms.Pair (term_of left) (term_of right)
   term_of code.Nil = terms.Nil
   term_of (code.Cell' p head q tail) = terms.Cell (term_of head) (term_of tail)
-  term_of (code.Abs' name p body) = terms.Abs (name_of_binder name) (term_of body)
+  term_of (code.Abs' binder p body) = terms.Abs (name_of_binder binder.value) (term_of body)
   term_of (code.Swapped' sides p body) = terms.Swapped (name_of_binder sides.value.left) (name_of_binder sides.value.right) (term_of body)
+
+  pub term_applied : application.Application → Term
+  term_applied (application.To word rest) = terms.Apply word.now (terms_of rest)
 
   pub terms_of : args.Args → Terms
   terms_of (args.Last t) = terms.Last (term_of t)

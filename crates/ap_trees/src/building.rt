@@ -9,7 +9,7 @@ ghost use Rattle.ap_trees.specs.Trees.{term_of, terms_of, trees_of, name_of_bind
 use crate::cursor::{after_close, after_close_list};
 use crate::outcome::ReadError;
 use crate::symbols::Symbol;
-use crate::trees::{Args, Sides, Tree};
+use crate::trees::{Application, Args, Binder, Sides, Tree};
 use std::alloc::{AllocError, Global};
 
 /// A term before the `)` that closes it, and what follows that.
@@ -78,7 +78,8 @@ pub fn applied<'a>(
         ≡ trees.Apply word.entry.now (trees.argument_terms (trees_of parts.entry.items))) }
 {
     let args = arguments(alloc, parts)?;
-    Ok(Tree::Apply(word, Box::new(alloc, args)?))
+    let whole = Application::To(word, args);
+    Ok(Tree::Apply(Box::new(alloc, whole)?))
 }
 
 /// An application of one argument, behind that.
@@ -91,8 +92,9 @@ pub(crate) fn sole_application<'a, 's>(
     ensures { GivesPart (λ r. (term_of r.0, syms r.1.now)) result (spec.before_close
         (trees.Apply word.entry.now (trees.Last (term_of argument.entry))) (syms symbols.now)) }
 {
-    let args = Box::new(alloc, Args::Last(argument))?;
-    closed(Tree::Apply(word, args), symbols)
+    let args = Args::Last(argument);
+    let whole = Box::new(alloc, Application::To(word, args))?;
+    closed(Tree::Apply(whole), symbols)
 }
 
 /// The list of these terms and of the end.
@@ -109,6 +111,19 @@ pub(crate) fn cells<'a>(
         whole = Tree::Cell(Box::new(alloc, part)?, Box::new(alloc, whole)?);
     }
     Ok(whole)
+}
+
+/// A term under a binder.
+pub(crate) fn abstracted<'a>(
+    alloc: Global,
+    binder: Binder<'a>,
+    body: Tree<'a>,
+) -> Result<Tree<'a>, AllocError>
+    ensures { IfOk result (λ t. term_of t
+        ≡ trees.Abs (name_of_binder binder.entry) (term_of body.entry)) }
+{
+    let binder = Box::new(alloc, binder)?;
+    Ok(Tree::Abs(binder, Box::new(alloc, body)?))
 }
 
 /// A term under a swapping.

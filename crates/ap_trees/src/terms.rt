@@ -10,7 +10,7 @@ ghost use Rattle.ap_trees.specs.TermReader.{read_term};
 ghost use Rattle.ap_trees.specs.Trees.{term_of, trees_of, name_of_binder};
 
 use crate::building::{
-    applied, begun, cells, closed, closed_list, sole_application, swapping, tuple,
+    abstracted, applied, begun, cells, closed, closed_list, sole_application, swapping, tuple,
 };
 use crate::cursor::{
     after_bar, after_close, after_close_list, after_comma, after_lambda, after_open,
@@ -107,7 +107,8 @@ fn abstraction<'a, 's>(
         (read_term levels) (name_of_binder binder.entry) (syms symbols.now)) }
 {
     let (body, rest) = any_term(alloc, levels, symbols)?;
-    Ok((Tree::Abs(binder, Box::new(alloc, body)?), rest))
+    let whole = abstracted(alloc, binder, body)?;
+    Ok((whole, rest))
 }
 
 /// An application of two arguments or more, behind the first of them.

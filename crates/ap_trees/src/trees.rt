@@ -25,18 +25,25 @@ pub enum Args<'a> {
     More(Tree<'a>, Box<Args<'a>>),
 }
 
-/// A term as it is written. A word alone is a name or a constructor.
+/// A word that is applied to arguments.
+#[cycle(tree)]
+#[derive(Drop)]
+pub enum Application<'a> {
+    To(&'a str, Args<'a>),
+}
+
+/// A term as it is written. A word alone is a name or a constructor. A text has many, so one is small: what takes
+/// more than two words of memory stands in a box.
 #[cycle(tree)]
 pub enum Tree<'a> {
     Unit,
     Var(&'a str),
     Word(&'a str),
-    Apply(&'a str, Box<Args<'a>>),
+    Apply(Box<Application<'a>>),
     Pair(Box<Tree<'a>>, Box<Tree<'a>>),
     Nil,
     Cell(Box<Tree<'a>>, Box<Tree<'a>>),
-    Abs(Binder<'a>, Box<Tree<'a>>),
-    /// The sides stand apart, since a swapping is rare and they take more room than all else.
+    Abs(Box<Binder<'a>>, Box<Tree<'a>>),
     Swapped(Box<Sides<'a>>, Box<Tree<'a>>),
 }
 
@@ -58,7 +65,10 @@ impl Drop for Tree<'_> {
         loop {
             match self {
                 Tree::Unit | Tree::Var(_) | Tree::Word(_) | Tree::Nil => return,
-                Tree::Apply(_word, _args) => return,
+                Tree::Apply(applied) => {
+                    let Application::To(_word, _args) = Box::into_inner(applied);
+                    return;
+                }
                 Tree::Pair(_left, right) => self = Box::into_inner(right),
                 Tree::Cell(_head, tail) => self = Box::into_inner(tail),
                 Tree::Abs(_name, body) => self = Box::into_inner(body),

@@ -8,7 +8,7 @@ ghost use Rattle.ap_unparse.specs.WrittenTerms.{barred_words, name_text, tuple_o
 use crate::closing::write_closers;
 use crate::context::Context;
 use ap_defs::memory::Memory;
-use ap_trees::{Args, Binder, Sides, Tree};
+use ap_trees::{Application, Args, Binder, Sides, Tree};
 use std::alloc::Global;
 
 /// Writes the bar that stands before the rest of a list.
@@ -164,7 +164,8 @@ pub fn write_tree(
                 write_nil(out, context)?;
                 return write_closers(out, closers);
             }
-            Tree::Apply(word, args) => {
+            Tree::Apply(applied) => {
+                let Application::To(word, args) = &**applied;
                 begin_apply(out, word, context)?;
                 write_arguments(alloc, out, args)?;
                 out.push(b')')?;

@@ -2,6 +2,7 @@ use Rattle.std.proofs.Common.{◌≡◌, ◌≤◌, sym, ap, ◌∙◌, arith}
 use Rattle.ap_defs.specs.RawTerms.{raw_of, pair, app, abs}
 use Rattle.ap_spines.specs.declared.RawLayer.TheVariants as around
 use Rattle.ap_trees.specs.declared.trees.Tree.{Tree}
+use Rattle.ap_trees.specs.declared.trees.Binder.{Binder}
 use Rattle.ap_trees.specs.declared.trees.Args.{Args}
 use Rattle.ap_trees.specs.declared.trees.Sides.{Sides}
 use Rattle.ap_trees.specs.Terms as terms
@@ -71,14 +72,15 @@ innermost_term-loop-rest-preserved-in-Abs t c =
     let d = declared_of c.args.declared.now in
     let s = scope_of c.args.scope.now in
     let id = c.in_ok-binder-in-Abs.field-0 in
-    let spelling = name_of_binder c.in-Abs.spelling in
+    let spelling = name_of_binder c.in-Abs.spelling.value in
     let body = term_of c.deref-rest-in-Abs.result.now in
     let before = found_of c.loop-rest.found in
     let after = found_of c.binder.new.found in
     let is : term_of c.loop-rest.rest.now ≡ terms.Abs spelling body = ap term_of c.in-Abs.is ∙ ap (λ (u : Tree). terms.Abs spelling (term_of u)) (sym c.deref-rest-in-Abs.ensures) in
+    let binds : (id, after) ≡ binder s spelling before = c.in_ok-binder-in-Abs.ensures.value ∙ ap (λ (u : Binder). binder s (name_of_binder u) before) c.deref-in-Abs.ensures in
     record {
       all = raw_goes_in c.loop-rest.layers.items c.push-in-Abs.new.self.items (around.Abs id) (resolved_term d s (term_of c.loop-rest.rest.now) before) (resolved_term d s body after) _ c.in_ok-push-in-Abs.ensures.items
-          (ap (λ u. resolved_term d s u before) is ∙ then_is abs (binder s spelling) (resolved_term d s body) before after id c.in_ok-binder-in-Abs.ensures.value) c.loop-rest.invariant.all;
+          (ap (λ u. resolved_term d s u before) is ∙ then_is abs (binder s spelling) (resolved_term d s body) before after id binds) c.loop-rest.invariant.all;
       numbered = c.in_ok-binder-in-Abs.ensures.numbered;
       smaller = let k : term_size (terms.Abs spelling body) ≤ term_size (term_of c.args.tree.now) = rw is at c.loop-rest.invariant.smaller in omega arith;
     }

@@ -1,6 +1,6 @@
 -- What is left is no larger than what is dropped.
 use Rattle.std.proofs.Common.{◌≤◌}
-use Rattle.ap_trees.specs.declared.trees.Args.TheViews.{size-Args, size-Tree}
+use Rattle.ap_trees.specs.declared.trees.Application.TheViews.{size-Args, size-Tree}
 use Rattle.ap_trees.proofs.trees.+drops.Given as goal
 
 abbrev pub invariant-Args::drop-loop-self : goal.invariant-Args::drop-loop-self
