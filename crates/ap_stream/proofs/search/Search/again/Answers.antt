@@ -1,4 +1,4 @@
-use Rattle.std.proofs.Common.{◌≡◌, ◌-◌, Some, map, ap, ◌∙◌}
+use Rattle.std.proofs.Common.{◌≡◌, ◌-◌, map, ap, ◌∙◌}
 use Rattle.std.specs.Prelude.{slice_get}
 use Rattle.ap_defs.specs.Answers.{query_outs}
 use Rattle.ap_defs.specs.Goals.{NominalQuery, program_in, query_of}
