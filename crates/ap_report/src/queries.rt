@@ -15,7 +15,7 @@ use ap_defs::memory::Memory;
 use ap_index::index::Index;
 use ap_io::Gate;
 use ap_paths::Limit;
-use ap_stream::{report_of_runs, stream_report};
+use ap_stream::{Search, report_of_runs, stream_report};
 use std::alloc::Global;
 use std::sync::Wait;
 use std::thread::Threads;
@@ -100,15 +100,17 @@ fn report_beside<R: Threads + Wait + Sync, G: Gate>(
     report_shared(rt, alloc, gate, workers, limit, taken, problem)
 }
 
-/// The report on a query of a program, whose words are known. One worker writes it as it searches.
-fn report_query<R: Threads + Wait + Sync, G: Gate>(
+/// The report on a query of a program, whose words are known. One worker writes it as it searches, in the memory
+/// of an earlier search.
+fn report_query<'a, R: Threads + Wait + Sync, G: Gate>(
     rt: &R,
     alloc: Global,
     gate: &G,
     workers: Workers,
     limit: Limit,
     taken: &Taken<'_>,
-    problem: &Problem<'_>,
+    problem: &Problem<'a>,
+    room: &mut Option<Search<'a>>,
 ) -> Result<Vec<u8>, Memory>
     requires words { IsTaken problem.now.program.now.words taken.now }
     requires query { HasQuery problem.now }
@@ -117,7 +119,7 @@ fn report_query<R: Threads + Wait + Sync, G: Gate>(
         (problem.now.query - 1)) }
 {
     if workers.get() == 1 {
-        stream_report(alloc, limit, taken, problem)
+        stream_report(alloc, limit, taken, problem, room)
     } else {
         report_beside(rt, alloc, gate, workers, limit, taken, problem)
     }
@@ -139,13 +141,14 @@ pub(crate) fn report_program<R: Threads + Wait + Sync, G: Gate>(
     let count = query_count(program);
     let taken = taken_in(alloc, program.restricted())?;
     let mut bytes = Vec::new(alloc);
+    let mut room = None;
     for place in 0..count {
         let problem = Problem {
             program: &*program,
             query: place + 1,
             depth: depth.get(),
         };
-        let report = report_query(rt, alloc, gate, workers, limit, &taken, &problem)?;
+        let report = report_query(rt, alloc, gate, workers, limit, &taken, &problem, &mut room)?;
         bytes.extend_from_slice(&report)?;
     }
     Ok(bytes)

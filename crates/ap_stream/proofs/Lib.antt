@@ -1,3 +1,4 @@
+mod BeginningLemmas
 mod LineLemmas
 mod ComingLemmas
 mod RunLemmas

@@ -19,6 +19,9 @@ use ap_defs::terms::Term;
 use ap_paths::Run;
 use std::alloc::Global;
 
+// Room for so many bytes is made before an answer is written, so that few answers are moved while they are.
+const ROOM_OF_AN_ANSWER: usize = 128;
+
 /// So many outputs of one kind in a row, whose line is not written yet.
 #[derive(Clone, Copy)]
 pub enum PendingRun {
@@ -181,6 +184,7 @@ impl ReportBuilder {
             ≡ report_with (program_of program.now) query (locals_of locals.now) self.old
             (found path (answer_of answer.now) ∷ os)) }
     {
+        self.bytes.reserve(ROOM_OF_AN_ANSWER)?;
         write_run(alloc, &mut self.bytes, self.run)?;
         write_answer(alloc, &mut self.bytes, program, taken, locals, answer)?;
         self.bytes.push(b'\n')?;

@@ -20,11 +20,13 @@ use std::alloc::Global;
 
 /// The report on a query to a depth up to the last answer that is wanted, where the words of the text are
 /// known: each output is written as it is found, so that memory is that of the report and of one branch.
-pub fn stream_report(
+/// The memory of an earlier search is used again, and then lent to the next one.
+pub fn stream_report<'a>(
     alloc: Global,
     limit: Limit,
     taken: &Taken<'_>,
-    problem: &Problem<'_>,
+    problem: &Problem<'a>,
+    room: &mut Option<Search<'a>>,
 ) -> Result<Vec<u8>, Memory>
     requires words { IsTaken problem.now.program.now.words taken.now }
     requires query { HasQuery problem.now }
@@ -36,10 +38,11 @@ pub fn stream_report(
 {
     let program = problem.program.program();
     let locals = query_of_problem(problem).locals.items();
-    let mut search = Search::of(alloc, problem, limit)?;
+    let mut search = Search::within(alloc, room.take(), problem, limit)?;
     let mut builder = ReportBuilder::new(alloc);
     'searching: loop {
         let Some(out) = search.next(alloc)? else {
+            *room = search.lent();
             return builder.finish(alloc, problem.query);
         };
         builder.push(alloc, program, taken, locals, &out)?;

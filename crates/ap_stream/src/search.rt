@@ -13,7 +13,7 @@ ghost use Rattle.ap_paths.specs.Limits.{IsWanting, part};
 
 use ap_backchain::points::ChoicePoint;
 use ap_backchain::problem::{Problem, clauses_of_problem, query_of_problem};
-use ap_backchain::run::{Paths, first_machine, go_on};
+use ap_backchain::run::{Paths, first_machine, go_on, machine_again};
 use ap_defs::goals::Local;
 use ap_defs::memory::Memory;
 use ap_defs::paths::Out;
@@ -33,6 +33,9 @@ pub struct Search<'a> {
     points: Vec<ChoicePoint<'a>>,
     wanted: Limit,
 }
+
+// The deepest search whose memory is kept for the next one.
+const MOST_KEPT: usize = 4_096;
 
 /// Whether an answer is still wanted.
 fn is_wanting(limit: Limit) -> bool
@@ -119,6 +122,64 @@ impl<'a> Search<'a> {
             points: Vec::new(alloc),
             wanted: limit,
         })
+    }
+
+    /// The search of another query, as `of`, in the memory of this one.
+    fn again(self, p: &Problem<'a>, limit: Limit) -> Result<Search<'a>, Memory>
+        requires { HasQuery p.now }
+        ensures searching { IfOk result (λ s. IsSearching s) }
+        ensures outs { IfOk result (λ s. (q : NominalQuery) →
+            slice_get (queries_in p.now) (p.now.query - 1) ≡ Some q →
+            outs_to_come s
+            ≡ map without_path (part limit (query_outs (clauses_in p.now) p.now.depth q))) }
+    {
+        let clauses = clauses_of_problem(p);
+        let query = query_of_problem(p);
+        let Search {
+            machine,
+            mut points,
+            ..
+        } = self;
+        points.clear();
+        let machine = machine_again(machine, p.depth, query)?;
+        Ok(Search {
+            clauses,
+            locals: query.locals.items(),
+            machine,
+            points,
+            wanted: limit,
+        })
+    }
+
+    /// The search of a query, as `of`, in the memory of an earlier one, if there is one.
+    pub fn within(
+        alloc: Global,
+        earlier: Option<Search<'a>>,
+        p: &Problem<'a>,
+        limit: Limit,
+    ) -> Result<Search<'a>, Memory>
+        requires { HasQuery p.now }
+        ensures searching { IfOk result (λ s. IsSearching s) }
+        ensures outs { IfOk result (λ s. (q : NominalQuery) →
+            slice_get (queries_in p.now) (p.now.query - 1) ≡ Some q →
+            outs_to_come s
+            ≡ map without_path (part limit (query_outs (clauses_in p.now) p.now.depth q))) }
+    {
+        match earlier {
+            Some(search) => search.again(p, limit),
+            None => Search::of(alloc, p, limit),
+        }
+    }
+
+    /// The search, if its memory is little, to be lent to the next one.
+    pub fn lent(self) -> Option<Search<'a>>
+        ensures { IfSome result (λ s. s ≡ self.entry) }
+    {
+        if self.machine.path.capacity() > MOST_KEPT {
+            None
+        } else {
+            Some(self)
+        }
     }
 
     /// The next output, in order. None says that there is no more.
