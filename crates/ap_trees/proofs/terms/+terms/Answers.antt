@@ -33,7 +33,7 @@ abstraction-returns-in_err-body t c =
 
 pub abstraction-returns : goal.abstraction-returns
 abstraction-returns t c =
-    rw c.in_ok-new.ensures.ok (steps.abstraction_gives (read_term c.args.levels) (name_of_binder c.args.binder) (syms c.args.symbols.now) _ _ c.in_ok-body.ensures)
+    rw c.in_ok-whole.ensures (steps.abstraction_gives (read_term c.args.levels) (name_of_binder c.args.binder) (syms c.args.symbols.now) _ _ c.in_ok-body.ensures)
 
 pub longer_application-returns-in_err-parts : goal.longer_application-returns-in_err-parts
 longer_application-returns-in_err-parts t c =
