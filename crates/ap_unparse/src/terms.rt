@@ -164,14 +164,15 @@ pub fn write_tree(
                 write_nil(out, context)?;
                 return write_closers(out, closers);
             }
-            Tree::Apply(applied) => {
-                let Application::To(word, args) = &**applied;
-                begin_apply(out, word, context)?;
-                write_arguments(alloc, out, args)?;
-                out.push(b')')?;
-                write_closers(out, closers)?;
-                return Ok(());
-            }
+            Tree::Apply(applied) => match &**applied {
+                Application::To(word, args) => {
+                    begin_apply(out, word, context)?;
+                    write_arguments(alloc, out, args)?;
+                    out.push(b')')?;
+                    write_closers(out, closers)?;
+                    return Ok(());
+                }
+            },
             Tree::Pair(left, right) => {
                 begin_tuple(out, &mut closers, context)?;
                 write_tree(alloc, out, left, Context::Whole)?;

@@ -1,6 +1,7 @@
-use Rattle.std.proofs.Common.{◌≡◌, ◌++◌, ◌∙◌, ap}
+use Rattle.std.proofs.Common.{◌≡◌, ◌++◌, ◌∙◌, ap, sym}
 use Rattle.ap_trees.specs.declared.trees.Sides.{Sides}
-use Rattle.ap_trees.specs.Trees.{name_of_binder, term_of, terms_of}
+use Rattle.ap_trees.specs.Terms.{Apply}
+use Rattle.ap_trees.specs.Trees.{name_of_binder, term_applied, term_of, terms_of}
 use Rattle.ap_unparse.specs.WrittenTerms.{swap_opening}
 use Rattle.ap_unparse.proofs.TermBytes.{pair_goes_on, cell_goes_on, swap_goes_on, apply_ends, left_smaller, head_smaller, swapped_smaller, more_smaller, more_written}
 use Rattle.ap_unparse.proofs.terms.+writing.Goals as goal
@@ -17,11 +18,12 @@ write_arguments-loop-rest-preserved t c =
       smaller = rw c.deref-rest.ensures ((more_smaller ts us (term_of c.in-More.t) _ (ap terms_of c.in-More.is) c.loop-rest.invariant.smaller).1);
     }
 
-pub write_tree-returns-in-Apply : goal.write_tree-returns-in-Apply
-write_tree-returns-in-Apply t c =
-    apply_ends c.loop-rest.context (term_of c.loop-rest.rest.now) c.in-Apply.word.now (terms_of c.in-Apply.args.value) c.loop-rest.out.items c.begin_apply.new.out.items c.write_arguments.new.out.items c.push.new.self.items
-    c.write_closers-in-Apply.new.out.items c.loop-rest.closers.items _ (ap term_of c.in-Apply.is) c.in_ok-begin_apply-in-Apply.ensures (rw c.deref.ensures at c.in_ok-write_arguments-in-Apply.ensures) c.in_ok-push-in-Apply.ensures.items
-    c.in_ok-write_closers-in-Apply.ensures c.loop-rest.invariant.written
+pub write_tree-returns-in-To : goal.write_tree-returns-in-To
+write_tree-returns-in-To t c =
+    let is : term_of c.loop-rest.rest.now ≡ Apply c.in-To.word.now (terms_of c.in-To.args) = ap term_of c.in-Apply.is ∙ ap term_applied (sym c.deref.ensures) ∙ ap term_applied c.in-To.is in
+    apply_ends c.loop-rest.context (term_of c.loop-rest.rest.now) c.in-To.word.now (terms_of c.in-To.args) c.loop-rest.out.items c.begin_apply.new.out.items c.write_arguments.new.out.items c.push.new.self.items
+    c.write_closers-in-To.new.out.items c.loop-rest.closers.items _ is c.in_ok-begin_apply-in-To.ensures c.in_ok-write_arguments-in-To.ensures c.in_ok-push-in-To.ensures.items
+    c.in_ok-write_closers-in-To.ensures c.loop-rest.invariant.written
 
 pub write_tree-loop-rest-preserved-in-Pair-1 : goal.write_tree-loop-rest-preserved-in-Pair-1
 write_tree-loop-rest-preserved-in-Pair-1 t c =
