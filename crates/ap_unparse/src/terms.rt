@@ -1,7 +1,8 @@
 //! The text of terms.
 
 ghost use Rattle.std.specs.Prelude.{◌≡◌, [], ◌++◌, OnOk};
-ghost use Rattle.ap_trees.specs.Trees.{name_of_binder, term_of, terms_of};
+ghost use Rattle.ap_trees.specs.Terms.{Apply};
+ghost use Rattle.ap_trees.specs.Trees.{name_of_binder, term_applied, term_of, terms_of};
 ghost use Rattle.ap_unparse.specs.Written.{bytes_of};
 ghost use Rattle.ap_unparse.specs.WrittenTerms.{barred_words, name_text, tuple_opening, tuple_closing, list_opening, list_closing, swap_opening, abs_opening, apply_opening, term_at, arguments_of, nil_at};
 
@@ -115,6 +116,14 @@ fn write_nil(out: &mut Vec<u8>, context: Context) -> Result<(), Memory>
     Ok(())
 }
 
+/// The word and the arguments of an application.
+fn parts_of<'a, 't>(applied: &'t Application<'a>) -> (&'a str, &'t Args<'a>)
+    ensures { term_applied applied.now ≡ Apply result.0.now (terms_of result.1.now) }
+{
+    let Application::To(word, args) = applied;
+    (word, args)
+}
+
 /// Writes one term or more, with commas between them.
 #[cycle(writing)]
 fn write_arguments(alloc: Global, out: &mut Vec<u8>, args: &Args<'_>) -> Result<(), Memory>
@@ -164,15 +173,14 @@ pub fn write_tree(
                 write_nil(out, context)?;
                 return write_closers(out, closers);
             }
-            Tree::Apply(applied) => match &**applied {
-                Application::To(word, args) => {
-                    begin_apply(out, word, context)?;
-                    write_arguments(alloc, out, args)?;
-                    out.push(b')')?;
-                    write_closers(out, closers)?;
-                    return Ok(());
-                }
-            },
+            Tree::Apply(applied) => {
+                let (word, args) = parts_of(applied);
+                begin_apply(out, word, context)?;
+                write_arguments(alloc, out, args)?;
+                out.push(b')')?;
+                write_closers(out, closers)?;
+                return Ok(());
+            }
             Tree::Pair(left, right) => {
                 begin_tuple(out, &mut closers, context)?;
                 write_tree(alloc, out, left, Context::Whole)?;

@@ -18,12 +18,14 @@ write_arguments-loop-rest-preserved t c =
       smaller = rw c.deref-rest.ensures ((more_smaller ts us (term_of c.in-More.t) _ (ap terms_of c.in-More.is) c.loop-rest.invariant.smaller).1);
     }
 
-pub write_tree-returns-in-To : goal.write_tree-returns-in-To
-write_tree-returns-in-To t c =
-    let is : term_of c.loop-rest.rest.now ≡ Apply c.in-To.word.now (terms_of c.in-To.args) = ap term_of c.in-Apply.is ∙ ap term_applied (sym c.deref.ensures) ∙ ap term_applied c.in-To.is in
-    apply_ends c.loop-rest.context (term_of c.loop-rest.rest.now) c.in-To.word.now (terms_of c.in-To.args) c.loop-rest.out.items c.begin_apply.new.out.items c.write_arguments.new.out.items c.push.new.self.items
-    c.write_closers-in-To.new.out.items c.loop-rest.closers.items _ is c.in_ok-begin_apply-in-To.ensures c.in_ok-write_arguments-in-To.ensures c.in_ok-push-in-To.ensures.items
-    c.in_ok-write_closers-in-To.ensures c.loop-rest.invariant.written
+pub write_tree-returns-in-Apply : goal.write_tree-returns-in-Apply
+write_tree-returns-in-Apply t c =
+    let w = c.parts_of.result.0.now in
+    let args = terms_of c.parts_of.result.1.now in
+    let is : term_of c.loop-rest.rest.now ≡ Apply w args = ap term_of c.in-Apply.is ∙ ap term_applied (sym c.deref.ensures) ∙ c.parts_of.ensures in
+    apply_ends c.loop-rest.context (term_of c.loop-rest.rest.now) w args c.loop-rest.out.items c.begin_apply.new.out.items c.write_arguments.new.out.items c.push.new.self.items
+    c.write_closers-in-Apply.new.out.items c.loop-rest.closers.items _ is c.in_ok-begin_apply-in-Apply.ensures c.in_ok-write_arguments-in-Apply.ensures c.in_ok-push-in-Apply.ensures.items
+    c.in_ok-write_closers-in-Apply.ensures c.loop-rest.invariant.written
 
 pub write_tree-loop-rest-preserved-in-Pair-1 : goal.write_tree-loop-rest-preserved-in-Pair-1
 write_tree-loop-rest-preserved-in-Pair-1 t c =
