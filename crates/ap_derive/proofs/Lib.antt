@@ -6,3 +6,4 @@ pub mod DerivedLemmas
 pub mod UseLemmas
 mod TableLemmas
 mod WaitingLemmas
+mod QuestionSent

@@ -1,3 +1,6 @@
+use denote.Param.Send.{sendable}
+use Rattle.std.proofs.Crossing.{crosses}
+use Rattle.ap_defs.proofs.paths.Path.TheSendSync.{the_sync as path}
 use Rattle.std.proofs.Common.{ap, ap₂, map, ◌≡◌, ◌∙◌, ◌++◌}
 use Rattle.std.specs.Global.{Global}
 use Rattle.std.specs.Prelude.{Vec, ℕ}
@@ -6,9 +9,13 @@ use Rattle.std.proofs.lemmas.Result.{IfOk-at_ok, IfOk-weaker}
 use Rattle.ap_defs.specs.Goals.{goal_of, program_in}
 use Rattle.ap_derive.specs.Tables.{added_rows, counts_of}
 use Rattle.ap_derive.specs.Uses.{use_table, uses_in_each}
+use Rattle.ap_derive.proofs.QuestionSent.{question_send}
 use Rattle.ap_derive.proofs.UseLemmas.{sum_of_tables}
 use Rattle.ap_derive.proofs.WaitingLemmas.{uses_of_parts}
 use Rattle.ap_derive.proofs.counting.uses.+parts.Goals as goal
+
+pub join-first-requires-send-F : goal.join-first-requires-send-F
+join-first-requires-send-F g t c κs within = search (sendable, crosses, question_send, path) depth 40 fits 300000
 
 pub returns : goal.returns
 returns g t c =
