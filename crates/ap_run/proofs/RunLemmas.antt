@@ -4,9 +4,8 @@ use Rattle.ap_report.proofs.CompleteTexts.{complete_text}
 use Rattle.ap_report.proofs.SoundTexts.{sound_text}
 use Rattle.ap_report.specs.declared.report.Report.{Report}
 use Rattle.ap_report.specs.TextReport.{run_report}
-use Rattle.ap_run.specs.declared.wants.Wanted.{Wanted}
 use Rattle.ap_run.specs.Inputs.{Broken, Input, Over, Whole}
-use Rattle.ap_run.specs.Runs.{IsCompleteRun, IsRunReportFor, IsSoundRun, wanted_in}
+use Rattle.ap_run.specs.Runs.{IsCompleteRun, IsRunReportFor, IsSoundRun, Wanted, wanted_in}
 use Rattle.ap_run.proofs.PutLemmas.{IsTold, told_text}
 
 sound_for : (w : Option Wanted) (input : Input) → IsSoundRun w input

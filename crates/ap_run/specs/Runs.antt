@@ -8,12 +8,17 @@ use Rattle.ap_report.specs.TextReport.{IsTextReport, run_report}
 use Rattle.ap_words.specs.declared.Asked.{Asked}
 use Rattle.ap_words.specs.declared.Asked.TheVariants as asked
 use Rattle.ap_words.specs.Words.{asked_of}
-use Rattle.ap_run.specs.declared.wants.Wanted.{Wanted}
+use Rattle.ap_paths.specs.declared.limits.Limit.{Limit}
 use Rattle.ap_run.specs.Inputs.{Input, IsReportOn, Whole, line}
 
--- what is wanted of a run, where the words ask for one
+-- What is wanted of a run: the depth to which queries are searched, and how many answers of each.
+pub record Wanted : Type 0 where
+  pub depth : ℕ
+  pub limit : Limit
+
+-- what is wanted, where the words ask for a run
 abbrev pub wanted_by : Option Asked → Option Wanted
-wanted_by (Some (asked.Run depth workers limit)) = Some (record { depth = depth; workers = workers; limit = limit })
+wanted_by (Some (asked.Run depth workers limit)) = Some (record { depth = depth; limit = limit })
 wanted_by _ = None
 
 abbrev pub is_run : Option Asked → Bool

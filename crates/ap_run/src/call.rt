@@ -1,21 +1,58 @@
 // From the words and the bytes that come in to the bytes that go out.
-ghost use Rattle.std.specs.Prelude.{◌≡◌, ◌≢◌, IfOk, false, map, string_bytes, true};
+ghost use Rattle.std.specs.Prelude.{◌≡◌, ◌≢◌, IfOk, Some, codes, false, map, string_bytes, true};
 ghost use Rattle.ap_words.specs.Words.{asked_of};
 ghost use Rattle.ap_report.specs.declared.report.Report.{Report};
-ghost use Rattle.ap_run.specs.Inputs.{Input};
-ghost use Rattle.ap_run.specs.Runs.{IsTheRunReport, is_run};
+ghost use Rattle.ap_run.specs.Inputs.{Input, IsOnlyReport, line as line_of};
+ghost use Rattle.ap_run.specs.Runs.{IsRunReportFor, IsTheRunReport, is_run, wanted_by};
 ghost use Rattle.ap_run.specs.Writing.{IsRead, IsReportWritten, IsUnwritten};
 
 use crate::lines::line;
 use crate::putting::put;
 use crate::running::report_run;
-use crate::wants::wanted_run;
 use ap_defs::memory::Memory;
 use ap_io::{Gate, Sink, Source};
 use ap_report::{Report, Status};
+use ap_words::Asked;
 use std::alloc::Global;
 use std::sync::Wait;
 use std::thread::Threads;
+
+/// The report of words that ask for no run.
+fn refused(alloc: Global) -> Result<Report, Memory>
+    ensures { IfOk result (λ r. r ≡ line_of (codes "% usage fault\n") Status.Usage) }
+{
+    line(alloc, "% usage fault\n", Status::Usage)
+}
+
+/// The report of what is asked for, on what the source has left.
+fn report_asked<R: Threads + Wait + Sync, S: Source, G: Gate>(
+    rt: &R,
+    alloc: Global,
+    gate: &G,
+    asked: Asked,
+    source: &mut S,
+) -> Result<Report, Memory>
+    ensures unread { is_run (Some asked) ≡ false → source.new ≡ source.old }
+    ensures made { IfOk result (λ r. (input : Input)
+        × (is_run (Some asked) ≡ true →
+        IsRead (S.left source.old) (S.faults source.old) (S.faults source.new) input)
+        × IsOnlyReport (IsRunReportFor (wanted_by (Some asked)) input) r) }
+{
+    match asked {
+        Asked::Run {
+            depth,
+            workers,
+            limit,
+        } => report_run(rt, alloc, gate, depth, workers, limit, source),
+        Asked::Prove { .. } => refused(alloc),
+        Asked::Check => refused(alloc),
+        Asked::Convert { .. } => refused(alloc),
+        Asked::Count { .. } => refused(alloc),
+        Asked::Cover { .. } => refused(alloc),
+        Asked::Examine { .. } => refused(alloc),
+        Asked::Work { .. } => refused(alloc),
+    }
+}
 
 /// The report for the words and what the source has left, which is read only where the words ask for a
 /// run.
@@ -34,9 +71,9 @@ fn report<R: Threads + Wait + Sync, S: Source, G: Gate>(
         IsRead (S.left source.old) (S.faults source.old) (S.faults source.new) input)
         × IsTheRunReport (map string_bytes words.now) input r) }
 {
-    match wanted_run(ap_words::read(alloc, words)?) {
-        Some(run) => report_run(rt, alloc, gate, run.depth, run.workers, run.limit, source),
-        None => line(alloc, "% usage fault\n", Status::Usage),
+    match ap_words::read(alloc, words)? {
+        Some(asked) => report_asked(rt, alloc, gate, asked, source),
+        None => refused(alloc),
     }
 }
 

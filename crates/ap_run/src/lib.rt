@@ -11,7 +11,6 @@ mod lines;
 mod putting;
 mod reading;
 mod running;
-mod wants;
 mod writing;
 
 pub use ap_report::Status;
@@ -20,4 +19,3 @@ pub use lines::line;
 pub use putting::put;
 pub use reading::{ReadError, read_whole};
 pub use running::report_run;
-pub use wants::{Wanted, wanted_run};
