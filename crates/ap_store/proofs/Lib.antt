@@ -7,6 +7,7 @@ pub mod TableLemmas
 pub mod StoredLemmas
 pub mod MarkLemmas
 pub mod HeldLemmas
+mod JoinedLemmas
 pub mod StoreLemmas
 pub mod FollowLemmas
 pub mod ReachLemmas

@@ -2,14 +2,13 @@
 
 use super::Store;
 use crate::bare::Bare;
-use crate::held::{all_of, held_of};
+use crate::held::{held_of, set_of};
 use crate::slots::Found;
 use crate::tables::{bound_at, found_at};
 use ap_defs::goals::Kind;
 use ap_defs::memory::Memory;
 use ap_defs::terms::{Cond, Var};
 use ap_perm::closures::{Closure, Lent};
-use ap_perm::sets::make_set;
 use std::alloc::Global;
 
 impl<'a> Store<'a> {
@@ -73,9 +72,7 @@ impl<'a> Store<'a> {
     pub fn conds(&self, alloc: Global) -> Result<Vec<Cond>, Memory>
         ensures { IfOk result (λ conds. conds.items ≡ (present self.now).conditions) }
     {
-        let mut conds = all_of(alloc, &self.held)?;
-        make_set(&mut conds);
-        Ok(conds)
+        set_of(alloc, &self.held)
     }
 
     /// The next number. It takes no memory.
