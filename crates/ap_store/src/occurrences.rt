@@ -1,6 +1,6 @@
 //! Occurrences of variables.
 
-ghost use Rattle.std.specs.Prelude.{◌≡◌, true, if◌then◌else◌, IfOk};
+ghost use Rattle.std.specs.Prelude.{◌≡◌, ◌↔◌, if◌then◌else◌, IfOk, IsTrue, true};
 ghost use Rattle.ap_defs.specs.Substitution.{occurs, under};
 ghost use Rattle.ap_store.specs.Founds.{IsSight, bare_term, does_occur, occurs_in};
 ghost use Rattle.ap_store.specs.Marks.{HasNoVars};
@@ -32,7 +32,7 @@ impl Occurrence {
 
     /// Whether no variable stands there.
     pub fn is_ground(self) -> bool
-        ensures { result ≡ true → self ≡ Occurrence.Ground }
+        ensures { IsTrue result ↔ (self ≡ Occurrence.Ground) }
     {
         matches!(self, Occurrence::Ground)
     }

@@ -34,7 +34,7 @@ bind_part-requires-2-clause-absent c =
 
 pub bind_part-requires-2-clause-no_vars : goal.bind_part-requires-2-clause-no_vars
 bind_part-requires-2-clause-no_vars c =
-    λ h. subst (λ (u : NominalTerm). HasNoVars (under (bindings_of c.args.store.now) u)) c.closure-c.ensures (c.in_ok-found.ensures.no_vars (c.is_ground.ensures h))
+    λ h. subst (λ (u : NominalTerm). HasNoVars (under (bindings_of c.args.store.now) u)) c.closure-c.ensures (c.in_ok-found.ensures.no_vars (c.is_ground.ensures.0 h))
 
 pub returns-clause-turn : goal.returns-clause-turn
 returns-clause-turn c =
