@@ -1,6 +1,6 @@
 //! Occurrences of variables.
 
-ghost use Rattle.std.specs.Prelude.{◌≡◌, ◌==◌, ◌⊎◌, ℕ, [], true, Some, if◌then◌else◌, IfOk};
+ghost use Rattle.std.specs.Prelude.{◌≡◌, ◌==◌, ◌↔◌, ◌⊎◌, ℕ, [], true, Some, if◌then◌else◌, IfOk, IsTrue};
 ghost use Rattle.ap_defs.specs.Substitution.{occurs, under};
 ghost use Rattle.ap_defs.specs.Terms.{susp};
 ghost use Rattle.ap_defs.specs.declared.terms.Var.{Var as variable};
@@ -39,7 +39,7 @@ impl Occurrence {
 
     /// Whether no variable stands there.
     pub fn is_ground(self) -> bool
-        ensures { result ≡ true → self ≡ Occurrence.Ground }
+        ensures { IsTrue result ↔ (self ≡ Occurrence.Ground) }
     {
         matches!(self, Occurrence::Ground)
     }
