@@ -40,7 +40,7 @@ pub note_binding-requires-clause-mark : goal.note_binding-requires-clause-mark
 note_binding-requires-clause-mark c =
     let e : kept_term c.plain_value-value.result ≡ rename_term c.args.base (term_of c.args.term.now) = ap term_or_unit c.plain_value-value.ensures.term in
     λ h. subst (λ (a : Triple). HasNoVars (under a.bindings (kept_term c.plain_value-value.result))) (sym c.make_room.ensures.present)
-    (subst (λ (t : NominalTerm). HasNoVars (under (bindings_of c.args.self.now) t)) (sym e) (c.requires.no_vars (c.is_ground.ensures (sym c.plain_value-value.ensures.mark ∙ h))))
+    (subst (λ (t : NominalTerm). HasNoVars (under (bindings_of c.args.self.now) t)) (sym e) (c.requires.no_vars (c.is_ground.ensures.0 (sym c.plain_value-value.ensures.mark ∙ h))))
 
 pub note_binding-requires-clause-like : goal.note_binding-requires-clause-like
 note_binding-requires-clause-like c =
