@@ -41,6 +41,9 @@ pub enum Paths {
     Left,
 }
 
+// So many cells of goals that wait no longer are let go at once.
+const MANY_CELLS: usize = 1_024;
+
 // A search of so many turns is over sooner than a thread is started.
 const FEW_TURNS: u32 = 1_000;
 
@@ -182,6 +185,22 @@ fn turn_on<'a>(
     }
 }
 
+/// Lets go of the cells of goals that wait no longer, where there are many.
+fn let_go_cells<'a>(machine: &mut Machine<'a>)
+    ensures { position_of machine.new ≡ position_of machine.old }
+{
+    let save = machine.save();
+    if save.cells - save.first >= MANY_CELLS {
+        machine.go_back(Save {
+            mark: save.mark,
+            cells: save.first,
+            first: save.first,
+            path: save.path,
+            brought: save.brought,
+        });
+    }
+}
+
 /// Lets go of the goals that wait no longer, where no choice has a way left to which the search could go back.
 fn let_go<'a>(machine: &mut Machine<'a>, points: &Vec<ChoicePoint<'a>>)
     requires { HasPoints machine.old points.now }
@@ -190,8 +209,8 @@ fn let_go<'a>(machine: &mut Machine<'a>, points: &Vec<ChoicePoint<'a>>)
         ≡ pending_positions machine.old points.now }
     ensures points { HasPoints machine.new points.now }
 {
-    if points.is_empty() {
-        machine.let_go();
+    if points.as_slice().is_empty() {
+        let_go_cells(machine);
     }
 }
 

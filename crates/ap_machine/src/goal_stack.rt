@@ -103,14 +103,4 @@ impl<'a> GoalStack<'a> {
         self.cells.truncate(size);
         self.first = first;
     }
-
-    /// Lets go of the goals that wait no longer, so that nobody can go back to them.
-    pub fn let_go(&mut self)
-        ensures { waiting_in self.new ≡ waiting_in self.old }
-    {
-        let first = self.first;
-        if first < self.cells.len() {
-            self.back_to(first, first);
-        }
-    }
 }

@@ -127,13 +127,6 @@ impl<'a> Machine<'a> {
         self.goals.pop()
     }
 
-    /// Lets go of the goals that wait no longer, so that the search can't go back to where they waited.
-    pub fn let_go(&mut self)
-        ensures { position_of self.new ≡ position_of self.old }
-    {
-        self.goals.let_go();
-    }
-
     /// How far the search has come. It takes no memory.
     pub fn save(&self) -> Save
         ensures within { IsSaveWithin result (track_of self.now) }
