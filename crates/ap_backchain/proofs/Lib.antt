@@ -3,6 +3,7 @@ pub mod ApartLemmas
 pub mod BranchLemmas
 pub mod ChooseLemmas
 pub mod CountLemmas
+pub mod CutLemmas
 pub mod MarkLemmas
 pub mod PointLemmas
 pub mod RunLemmas

@@ -159,3 +159,10 @@ ended_goal program d (fresh t u) p w h = cc
 ended_goal program d (both g k) p w h = cc
 ended_goal program d (exists x g) p w h = cc
 ended_goal program d (new a g) p w h = cc
+
+-- where no choice has a way left
+pub no_points : (b d : Machine) (vs : Vec ChoicePoint Global) → vs.items ≡ [] → (pending_positions d vs ≡ pending_positions b vs) × HasPoints d vs
+no_points b d vs e = (
+  ap (λ (us : List ChoicePoint). positions_pending (track_of d) (reverse us)) e ∙ sym (ap (λ (us : List ChoicePoint). positions_pending (track_of b) (reverse us)) e),
+  subst (λ (us : List ChoicePoint). ArePoints (track_of d) (reverse us)) (sym e) tt,
+)

@@ -39,22 +39,25 @@ pub enum IdentKind {
 
 /// The table of the most general shapes of the holes of a system. No sort is above the greatest `u32`,
 /// so more name types than that count as want of memory.
-fn table_of_holes(alloc: Global, sig: &Signature, system: &System) -> Result<Solved, TypesError>
+fn table_of_holes(alloc: Global, sig: &Signature, system: System) -> Result<Solved, TypesError>
     ensures settled { IfOk result (λ s. IsSettledTable (shapes_of_nodes s.nodes.items)) }
     ensures order { IfOk result (λ s. AreInOrder (shapes_of_nodes s.nodes.items) s.order.items) }
     ensures ok { IfOk result (λ s. IsSystemSolved (name_count (signature_of sig.now))
-        (system_of system.now) (assignment_of s)) }
+        (system_of system) (assignment_of s)) }
     ensures clash { IfErr result (λ e. e ≡ TypesError.Clash →
-        IsUnsolvable (system_of system.now).equations (system_of system.now).names
+        IsUnsolvable (system_of system).equations (system_of system).names
         (name_count (signature_of sig.now))) }
 {
     let name_types = sig.name_types.items().len();
     if name_types > u32::MAX as usize {
         return Err(TypesError::Memory);
     }
-    let equations = system.equations.as_slice();
-    let names = system.names.as_slice();
-    solved(alloc, equations, names, name_types as u32)
+    let System {
+        equations,
+        names,
+        ..
+    } = system;
+    solved(alloc, equations, names.as_slice(), name_types as u32)
 }
 
 /// The kinds of identifiers, by the table of their system.
@@ -90,13 +93,13 @@ fn settle(
     sig: &Signature,
     inhabitants: &Inhabitants,
     idents: &[IdentKind],
-    system: &System,
+    system: System,
 ) -> Result<Vec<Kind>, KindsError>
     requires { AreInhabitants (signature_of sig.now).constructors inhabitants.now }
-    ensures ok { IfOk result (λ ks. IsFound (signature_of sig.now) idents.now (system_of system.now)
+    ensures ok { IfOk result (λ ks. IsFound (signature_of sig.now) idents.now (system_of system)
         (map kind_of ks.items)) }
     ensures err { IfErr result (λ e. IsNotFound e (signature_of sig.now) idents.now
-        (system_of system.now)) }
+        (system_of system)) }
 {
     match table_of_holes(alloc, sig, system) {
         Ok(table) => read_table(alloc, sig, inhabitants, idents, &table),
@@ -167,7 +170,7 @@ pub fn kinds_of_query(
         (signature_of sig.now) idents.now (goal_over raw_of goal.now))) }
 {
     let system = system_of_query(alloc, sig, goal, idents)?;
-    settle(alloc, sig, inhabitants, idents, &system)
+    settle(alloc, sig, inhabitants, idents, system)
 }
 
 /// The only kinds of its identifiers that type a clause of a predicate, by its head's arguments and its
@@ -191,5 +194,5 @@ pub fn kinds_of_clause(
         (signature_of sig.now) idents.now pred (map raw_of args.now) (goal_over raw_of body.now))) }
 {
     let system = system_of_clause(alloc, sig, pred, args, body, idents)?;
-    settle(alloc, sig, inhabitants, idents, &system)
+    settle(alloc, sig, inhabitants, idents, system)
 }

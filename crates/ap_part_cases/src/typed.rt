@@ -58,7 +58,7 @@ fn program_shown(alloc: Global, program: &Program<Raw>) -> Result<String, AllocE
 }
 
 /// The program of items that are well typed.
-fn program_of(alloc: Global, items: &[Item<'_>]) -> Result<Option<Program<Raw>>, AllocError> {
+fn program_of(alloc: Global, items: Vec<Item<'_>>) -> Result<Option<Program<Raw>>, AllocError> {
     if items.len() > SIZE_LIMIT {
         return Err(AllocError);
     }
@@ -73,7 +73,7 @@ fn program_of(alloc: Global, items: &[Item<'_>]) -> Result<Option<Program<Raw>>,
 pub fn typed_shown(alloc: Global, text: &str) -> Result<String, SynError> {
     let tokens = tokens_of(alloc, text.as_bytes())?;
     let items = items_of(alloc, &tokens)?;
-    match program_of(alloc, &items)? {
+    match program_of(alloc, items)? {
         Some(program) => Ok(program_shown(alloc, &program)?),
         None => Ok("ill typed".to_string(alloc)?),
     }

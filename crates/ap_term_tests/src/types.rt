@@ -130,7 +130,7 @@ fn is_clash(answer: Result<Assignment, TypesError>) -> bool {
 /// The holes of one equation that has hole 0 alone.
 fn filled(alloc: Global, left: Shape, right: Shape) -> Result<Assignment, TypesError> {
     let equations = vec![in alloc; (left, right)]?;
-    solve(alloc, equations.as_slice(), &[], 1)
+    solve(alloc, equations, &[], 1)
 }
 
 fn is_hole(shape: &Shape, number: u64) -> bool {
@@ -170,7 +170,7 @@ fn endless(alloc: Global) -> Result<Vec<(Shape, Shape)>, Memory> {
 
 fn endless_filled(alloc: Global) -> Result<Assignment, TypesError> {
     let equations = endless(alloc)?;
-    solve(alloc, equations.as_slice(), &[], 1)
+    solve(alloc, equations, &[], 1)
 }
 
 #[test]
@@ -180,7 +180,7 @@ fn a_hole_in_its_own_shape_is_a_clash(rt: HostRuntime) {
 
 /// Whether hole 1, which must be a name type, is the one that there is.
 fn is_only_name_type(alloc: Global) -> Result<bool, TypesError> {
-    let only = solve(alloc, &[], &[1], 1)?;
+    let only = solve(alloc, Vec::new(alloc), &[1], 1)?;
     match only.holes.items() {
         [first, second] => Ok(is_hole(first, 0) && is_names(second, 0)),
         _ => Ok(false),
@@ -189,7 +189,7 @@ fn is_only_name_type(alloc: Global) -> Result<bool, TypesError> {
 
 /// Whether hole 1, which must be a name type, stays open where there are two.
 fn is_either_name_type(alloc: Global) -> Result<bool, TypesError> {
-    let either = solve(alloc, &[], &[1], 2)?;
+    let either = solve(alloc, Vec::new(alloc), &[1], 2)?;
     match either.holes.items() {
         [first, second] => Ok(is_hole(first, 0) && is_hole(second, 1)),
         _ => Ok(false),
@@ -199,13 +199,13 @@ fn is_either_name_type(alloc: Global) -> Result<bool, TypesError> {
 /// What there is where hole 1 must be a name type, and is the unit.
 fn unit_for_name_type(alloc: Global) -> Result<Assignment, TypesError> {
     let equations = vec![in alloc; (Shape::Hole(1), Shape::Unit)]?;
-    solve(alloc, equations.as_slice(), &[1], 2)
+    solve(alloc, equations, &[1], 2)
 }
 
 #[test]
 fn holes_that_must_be_name_types(rt: HostRuntime) {
     let alloc = rt.alloc();
-    assert!(rt; is_clash(solve(alloc, &[], &[1], 0)));
+    assert!(rt; is_clash(solve(alloc, Vec::new(alloc), &[1], 0)));
     assert!(rt; matches!(is_only_name_type(alloc), Ok(true)));
     assert!(rt; matches!(is_either_name_type(alloc), Ok(true)));
     assert!(rt; is_clash(unit_for_name_type(alloc)));
@@ -225,15 +225,15 @@ fn doublings(alloc: Global, count: u64) -> Result<Vec<(Shape, Shape)>, Memory> {
 
 fn stand_once(alloc: Global) -> Result<bool, TypesError> {
     let equations = doublings(alloc, 200)?;
-    let table = solved(alloc, equations.as_slice(), &[], 1)?;
+    let table = solved(alloc, equations, &[], 1)?;
     let first = value_of(alloc, &table, 0)?;
-    Ok(table.holes == 201 && table.nodes.len() == 401 && is_hole(&first, 0))
+    Ok(table.holes == 201 && table.nodes.len() == 201 && is_hole(&first, 0))
 }
 
 fn doubled_unit(alloc: Global) -> Result<Assignment, TypesError> {
     let mut equations = doublings(alloc, 200)?;
     equations.push((Shape::Hole(200), Shape::Unit))?;
-    solve(alloc, equations.as_slice(), &[], 1)
+    solve(alloc, equations, &[], 1)
 }
 
 #[test]

@@ -17,14 +17,10 @@ use ap_typecheck::{TypeError, Typing};
 use std::alloc::Global;
 
 /// What is known of a text's items with the next one, where a typing has those before it.
-fn with_typed<'a>(
-    alloc: Global,
-    typing: &mut Typing<'a>,
-    item: &Item<'a>,
-) -> Result<Outlook, Memory>
+fn with_typed<'a>(alloc: Global, typing: &mut Typing<'a>, item: Item<'a>) -> Result<Outlook, Memory>
     requires { (is : List ItemOf) × (length is ≤ size_limit) × IsTypingOf is typing.old }
     ensures { IfOk result (λ o. (is : List ItemOf) → IsTypingOf is typing.old →
-        HasTyped (is ++ item_of item.now ∷ []) typing.new o) }
+        HasTyped (is ++ item_of item.entry ∷ []) typing.new o) }
 {
     match typing.add(alloc, item) {
         Ok(()) => Ok(Outlook::Typed),
@@ -38,11 +34,11 @@ fn with_item<'a>(
     alloc: Global,
     typing: &mut Typing<'a>,
     outlook: Outlook,
-    item: &Item<'a>,
+    item: Item<'a>,
 ) -> Result<Outlook, Memory>
     requires { (is : List ItemOf) × (length is ≤ size_limit) × HasTyped is typing.old outlook }
     ensures { IfOk result (λ o. (is : List ItemOf) → HasTyped is typing.old outlook →
-        HasTyped (is ++ item_of item.now ∷ []) typing.new o) }
+        HasTyped (is ++ item_of item.entry ∷ []) typing.new o) }
 {
     match outlook {
         Outlook::Typed => with_typed(alloc, typing, item),
@@ -71,7 +67,7 @@ fn with_tokens<'a>(
         return Ok(Outlook::Ungrammatical(fault));
     }
     match item_of_tokens(alloc, number, tokens) {
-        Ok(item) => with_item(alloc, typing, outlook, &item),
+        Ok(item) => with_item(alloc, typing, outlook, item),
         Err(SynError::Fault(fault)) => Ok(Outlook::Ungrammatical(fault)),
         Err(SynError::Memory) => Err(Memory),
     }

@@ -19,13 +19,14 @@ use ap_trees::Item;
 use std::alloc::Global;
 
 /// What the items make, or the first fault.
-fn check_items<'a>(alloc: Global, items: &[Item<'a>]) -> Result<Typing<'a>, TypeError>
-    requires { length items.now ≤ size_limit }
-    ensures made { IfOk result (λ t. IsTypingOf (items_of_text items.now) t) }
-    ensures err { IfErr result (λ e. IsRefusedByTypes e (items_of_text items.now)) }
+fn check_items<'a>(alloc: Global, items: Vec<Item<'a>>) -> Result<Typing<'a>, TypeError>
+    requires { length items.items ≤ size_limit }
+    ensures made { IfOk result (λ t. IsTypingOf (items_of_text items.entry.items) t) }
+    ensures err { IfErr result (λ e. IsRefusedByTypes e (items_of_text items.entry.items)) }
 {
     let mut typing = Typing::new(alloc);
-    for item in items {
+    let mut rest = items.into_iter();
+    'typing: while let Some(item) = rest.next() {
         match typing.add(alloc, item) {
             Ok(()) => {}
             Err(error) => return Err(error),
@@ -44,13 +45,13 @@ fn check_items<'a>(alloc: Global, items: &[Item<'a>]) -> Result<Typing<'a>, Type
 /// or a declared constructor stands as a binder, in one of the first two places of `swap`, or after `new`;
 /// `Ambiguous`, more than one assignment fits; `Empty`, exactly one does, and a variable has a type that
 /// isn't inhabited. `Memory` is want of memory.
-pub fn check(alloc: Global, items: &[Item<'_>]) -> Result<Program<Raw>, TypeError>
-    requires { length items.now ≤ size_limit }
-    ensures program { IfOk result (λ p. IsProgramOf (items_of_text items.now)
+pub fn check(alloc: Global, items: Vec<Item<'_>>) -> Result<Program<Raw>, TypeError>
+    requires { length items.items ≤ size_limit }
+    ensures program { IfOk result (λ p. IsProgramOf (items_of_text items.entry.items)
         (program_over raw_of p)) }
     ensures typed { IfOk result (λ p. IsTypedRawProgram (program_over raw_of p)) }
     ensures bounded { IfOk result (λ p. item_count (program_over raw_of p) ≤ size_limit) }
-    ensures fault { IfErr result (λ e. IsRefusedByTypes e (items_of_text items.now)) }
+    ensures fault { IfErr result (λ e. IsRefusedByTypes e (items_of_text items.entry.items)) }
 {
     let typing = check_items(alloc, items)?;
     match typing.finish(alloc) {

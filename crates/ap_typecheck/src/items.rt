@@ -41,16 +41,16 @@ fn add_item<'a>(
     alloc: Global,
     state: &mut State<'a>,
     place: Place,
-    form: &Form<'a>,
+    form: Form<'a>,
 ) -> Result<(), Refusal>
     requires kept { AreTablesKept state.old }
     requires small { IsSmall state.old.declared }
-    requires flawless { item_flaw (made_of state.old).declared (form_of form.now) ≡ None }
-    ensures made { OnOk result (Says (made_of state.old) place.item place.line (form_of form.now)
+    requires flawless { item_flaw (made_of state.old).declared (form_of form) ≡ None }
+    ensures made { OnOk result (Says (made_of state.old) place.item place.line (form_of form.entry)
         (made_of state.new)) }
     ensures kept { OnOk result (AreTablesKept state.new) }
     ensures err { IfErr result (λ e. IsRefusedItem e (made_of state.old).declared
-        (form_of form.now)) }
+        (form_of form.entry)) }
 {
     match form {
         Form::NameType(word) => declare_name_type(alloc, state, word)?,
@@ -66,7 +66,7 @@ fn add_item<'a>(
                 &state.inhabitants,
                 place,
                 word,
-                args.items(),
+                args,
                 body,
             )?;
             put_clause(state, clause)?;
@@ -84,19 +84,19 @@ pub fn check_item<'a>(
     alloc: Global,
     state: &mut State<'a>,
     place: Place,
-    form: &Form<'a>,
+    form: Form<'a>,
 ) -> Result<(), Refusal>
     requires kept { AreTablesKept state.old }
     requires small { IsSmall state.old.declared }
-    ensures flawless { OnOk result (item_flaw (made_of state.old).declared (form_of form.now)
+    ensures flawless { OnOk result (item_flaw (made_of state.old).declared (form_of form.entry)
         ≡ None) }
-    ensures made { OnOk result (Says (made_of state.old) place.item place.line (form_of form.now)
+    ensures made { OnOk result (Says (made_of state.old) place.item place.line (form_of form.entry)
         (made_of state.new)) }
     ensures kept { OnOk result (AreTablesKept state.new) }
     ensures err { IfErr result (λ e. IsRefusedItem e (made_of state.old).declared
-        (form_of form.now)) }
+        (form_of form.entry)) }
 {
-    match item_flaws::item_flaw(&state.declared, form) {
+    match item_flaws::item_flaw(&state.declared, &form) {
         Some(kind) => Err(Refusal::Kind(kind)),
         None => add_item(alloc, state, place, form),
     }

@@ -43,25 +43,26 @@ impl<'a> Typing<'a> {
         }
     }
 
-    /// The next item is typed. Behind an error no more items can be.
-    pub fn add(&mut self, alloc: Global, item: &Item<'a>) -> Result<(), TypeError>
+    /// The next item is typed, and let go where its terms are made. Behind an error no more items can be.
+    pub fn add(&mut self, alloc: Global, item: Item<'a>) -> Result<(), TypeError>
         requires { (is : List ItemOf) × (length is ≤ size_limit) × IsTypingOf is self.old }
         ensures made { OnOk result ((is : List ItemOf) → IsTypingOf is self.old →
-            IsTypingOf (is ++ item_of item.now ∷ []) self.new) }
+            IsTypingOf (is ++ item_of item.entry ∷ []) self.new) }
         ensures fault { IfErr result (λ e. (is more : List ItemOf) → IsTypingOf is self.old →
-            IsRefusedByTypes e (is ++ item_of item.now ∷ more)) }
+            IsRefusedByTypes e (is ++ item_of item.entry ∷ more)) }
     {
+        let Item { line, form } = item;
         let place = Place {
             item: self.items + 1,
-            line: item.line,
+            line,
         };
-        match check_item(alloc, &mut self.state, place, &item.form) {
-            Ok(()) => {}
-            Err(refusal) => return Err(text_error(refusal, place)),
-        }
-        match add_form(&mut self.words, &item.form) {
+        match add_form(&mut self.words, &form) {
             Ok(()) => {}
             Err(Memory) => return Err(TypeError::Memory),
+        }
+        match check_item(alloc, &mut self.state, place, form) {
+            Ok(()) => {}
+            Err(refusal) => return Err(text_error(refusal, place)),
         }
         self.items += 1;
         Ok(())

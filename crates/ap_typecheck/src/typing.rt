@@ -48,18 +48,18 @@ pub struct QueryParts<'a> {
 fn clause_parts<'a>(
     alloc: Global,
     declared: &Declarations<'_>,
-    args: &[Tree<'a>],
-    body: &Option<GoalTree<'a>>,
+    args: List<Tree<'a>>,
+    body: Option<GoalTree<'a>>,
 ) -> Result<ClauseParts<'a>, Memory>
     requires indexed { IsIndexed declared.now }
     requires small { IsSmall declared.now }
     ensures { IfOk result (λ r. clause_parts_of r
-        ≡ resolved_clause (declared_of declared.now) (trees_of args.now)
-        (option_map goal_of_tree body.now)) }
+        ≡ resolved_clause (declared_of declared.now) (trees_of args.entry)
+        (option_map goal_of_tree body.entry)) }
 {
     let mut found = Identifiers::new(alloc);
-    let args = resolved_terms(alloc, declared, &Brought::Nothing, args, &mut found)?;
-    let body = resolved_body(alloc, declared, body, &mut found)?;
+    let args = resolved_terms(alloc, declared, &Brought::Nothing, args.items(), &mut found)?;
+    let body = resolved_body(alloc, declared, &body, &mut found)?;
     Ok(ClauseParts {
         args,
         body,
@@ -70,15 +70,15 @@ fn clause_parts<'a>(
 fn query_parts<'a>(
     alloc: Global,
     declared: &Declarations<'_>,
-    goal: &GoalTree<'a>,
+    goal: GoalTree<'a>,
 ) -> Result<QueryParts<'a>, Memory>
     requires indexed { IsIndexed declared.now }
     requires small { IsSmall declared.now }
     ensures { IfOk result (λ r. query_parts_of r
-        ≡ resolved_query (declared_of declared.now) (goal_of_tree goal.now)) }
+        ≡ resolved_query (declared_of declared.now) (goal_of_tree goal.entry)) }
 {
     let mut found = Identifiers::new(alloc);
-    let goal = resolved_goal(alloc, declared, &Brought::Nothing, goal, &mut found)?;
+    let goal = resolved_goal(alloc, declared, &Brought::Nothing, &goal, &mut found)?;
     Ok(QueryParts {
         goal,
         found: found.into_found(),
@@ -184,7 +184,7 @@ fn query_with(
     })
 }
 
-/// A clause of a predicate with the kinds of its identifiers.
+/// A clause of a predicate with the kinds of its identifiers. Its trees are let go before its types are inferred.
 #[tactic(auto, using(crate::proofs::Refusals::clause_refused, crate::proofs::Refusals::clause_made))]
 pub fn typed_clause<'a>(
     alloc: Global,
@@ -192,18 +192,18 @@ pub fn typed_clause<'a>(
     inhabitants: &Inhabitants,
     place: Place,
     word: &str,
-    args: &[Tree<'a>],
-    body: &Option<GoalTree<'a>>,
+    args: List<Tree<'a>>,
+    body: Option<GoalTree<'a>>,
 ) -> Result<Clause<Raw>, Refusal>
     requires indexed { IsIndexed declared.now }
     requires small { IsSmall declared.now }
     requires inhabited { AreInhabitants (declared_of declared.now).signature.constructors
         inhabitants.now }
     ensures ok { IfOk result (λ c. IsClauseOf (declared_of declared.now) place.item place.line
-        word.now (trees_of args.now) (option_map goal_of_tree body.now) (clause_over raw_of c)) }
+        word.now (trees_of args.entry) (option_map goal_of_tree body.entry) (clause_over raw_of c)) }
     ensures err { IfErr result (λ e. IsRefusedBy e (declared_of declared.now) (spec.TypesClauseOf
-        (declared_of declared.now) word.now (trees_of args.now)
-        (option_map goal_of_tree body.now))) }
+        (declared_of declared.now) word.now (trees_of args.entry)
+        (option_map goal_of_tree body.entry))) }
 {
     let parts = clause_parts(alloc, declared, args, body)?;
     let pred = predicate_number(declared.predicate_place(word));
@@ -213,23 +213,23 @@ pub fn typed_clause<'a>(
     }
 }
 
-/// A query with the kinds of its identifiers.
+/// A query with the kinds of its identifiers. Its tree is let go before its types are inferred.
 #[tactic(auto, using(crate::proofs::Refusals::query_refused, crate::proofs::Refusals::query_made))]
 pub fn typed_query<'a>(
     alloc: Global,
     declared: &Declarations<'_>,
     inhabitants: &Inhabitants,
     place: Place,
-    goal: &GoalTree<'a>,
+    goal: GoalTree<'a>,
 ) -> Result<Query<Raw>, Refusal>
     requires indexed { IsIndexed declared.now }
     requires small { IsSmall declared.now }
     requires inhabited { AreInhabitants (declared_of declared.now).signature.constructors
         inhabitants.now }
     ensures ok { IfOk result (λ q. IsQueryOf (declared_of declared.now) place.item place.line
-        (goal_of_tree goal.now) (query_over raw_of q)) }
+        (goal_of_tree goal.entry) (query_over raw_of q)) }
     ensures err { IfErr result (λ e. IsRefusedBy e (declared_of declared.now) (spec.TypesQueryOf
-        (declared_of declared.now) (goal_of_tree goal.now))) }
+        (declared_of declared.now) (goal_of_tree goal.entry))) }
 {
     let parts = query_parts(alloc, declared, goal)?;
     match query_kinds(alloc, declared, inhabitants, &parts) {

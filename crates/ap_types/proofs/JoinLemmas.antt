@@ -102,7 +102,7 @@ shortens_fits ts x n after l e d a f = (
 )
 
 -- a place that is set to an earlier one
-set_formed : (ts : List TypeShape) (x : ℕ) (t : TypeShape) → x < length ts → AreFormed ts → IsFormed (length ts) x t → AreFormed (set ts x t)
+pub set_formed : (ts : List TypeShape) (x : ℕ) (t : TypeShape) → x < length ts → AreFormed ts → IsFormed (length ts) x t → AreFormed (set ts x t)
 set_formed ts x t l h k y =
     subst (λ n. IsFormed n y (shape_at (set ts x t) y)) (sym (length_set ts x t))
     (elim (equal_or_not y x) [

@@ -15,6 +15,7 @@ pub mod PartTests
 pub mod InhabitedParts
 pub mod BarredParts
 pub mod JoinLemmas
+pub mod FillLemmas
 pub mod WalkLemmas
 pub mod OrderLemmas
 pub mod WritingLemmas

@@ -1,12 +1,13 @@
 -- Shapes and equations in tables.
-use Rattle.std.proofs.Common.{◌≡◌, ◌<◌, ◌≤◌, ◌+◌, ◌↔◌, ◌∙◌, ℕ, List, [], ◌∷◌, ◌++◌, map, length, drop, get_or, sym, ap, subst, arith}
+use Rattle.std.proofs.Common.{◌≡◌, ◌<◌, ◌≤◌, ◌+◌, ◌↔◌, ◌∙◌, ℕ, List, [], ◌∷◌, ◌++◌, map, length, drop, get_or, refl, sym, ap, subst, arith}
 use Rattle.std.proofs.lemmas.List.{at_drop_more}
 use Rattle.ap_defs.specs.declared.terms.Shape.{Shape}
 use Rattle.ap_defs.specs.Types.{TypeShape, shape_of}
 use Rattle.ap_types.specs.Equations.{ShapeEquation, ◌≐◌, Filling, bound_of, FillingSolves, equations_bound, equation_of}
 use Rattle.ap_types.specs.Triangular.{Fits, AreFormed}
-use Rattle.ap_types.specs.Joining.{Extends, Loads, LoadsAll, Agree, ArePairsWithin}
-use Rattle.ap_types.proofs.TableLemmas.{extends_itself, extends_on}
+use Rattle.ap_types.specs.Joining.{Loads, LoadsAll, Agree, ArePairsWithin}
+use Rattle.ap_types.proofs.ShapeLemmas.{filled_below}
+use Rattle.ap_types.proofs.TableLemmas.{extends_on}
 
 pub within_more : (n m : ℕ) (ps : List (ℕ × ℕ)) → n ≤ m → ArePairsWithin n ps → ArePairsWithin m ps
 within_more n m [] l h = tt
@@ -22,57 +23,91 @@ agree_append f (p ∷ ps) qs =
     let k = agree_append f ps qs in
     ((λ h. ((h.0, (k.0 h.1).0), (k.0 h.1).1)), (λ h. (h.0.0, k.1 (h.0.1, h.1))))
 
+pub agree_below : (f g : Filling) (ps : List (ℕ × ℕ)) (n : ℕ) → ArePairsWithin n ps → ((x : ℕ) → x < n → g x ≡ f x) → Agree f ps → Agree g ps
+agree_below f g [] n w h a = tt
+agree_below f g (p ∷ ps) n w h a = (h p.0 w.0 ∙ a.0 ∙ sym (h p.1 w.1), agree_below f g ps n w.2 h a.1)
+
+-- equations are solved alike by what agrees on their holes
+pub solves_below : (f g : Filling) (es : List ShapeEquation) (n : ℕ) → equations_bound es ≤ n → ((x : ℕ) → x < n → g x ≡ f x) → FillingSolves f es → FillingSolves g es
+solves_below f g [] n b h s = tt
+solves_below f g ((t ≐ u) ∷ es) n b h s =
+    (filled_below f g t n (omega arith) h ∙ s.0 ∙ sym (filled_below f g u n (omega arith) h), solves_below f g es n (omega arith) h s.1)
+
 -- one equation more
-pub loads_equation : (ts us vs : List TypeShape) (ps : List (ℕ × ℕ)) (t u : TypeShape) (x y : ℕ) → ArePairsWithin (length ts) ps → Loads ts t us x → Loads us u vs y
-    → LoadsAll ts ps ((t ≐ u) ∷ []) vs (ps ++ (x, y) ∷ [])
-loads_equation ts us vs ps t u x y w h k =
+pub loads_equation : (ts us vs : List TypeShape) (ps : List (ℕ × ℕ)) (t u : TypeShape) (x y : ℕ) → ArePairsWithin (length ts) ps → bound_of t ≤ length ts → bound_of u ≤ length ts
+    → Loads ts t us x → Loads us u vs y → LoadsAll ts ps ((t ≐ u) ∷ []) vs (ps ++ (x, y) ∷ [])
+loads_equation ts us vs ps t u x y w bt bu h k =
     let e = extends_on ts us vs h.extends k.extends in
     let l = h.within in
     let m = k.within in
     let n = k.extends.longer in record {
-      extends = e;
+      longer = e.longer;
+      formed = e.formed;
       within = within_append (length vs) ps ((x, y) ∷ []) (within_more (length ts) (length vs) ps e.longer w) (omega arith, omega arith, tt);
-      stands = λ f b.
+      solves = λ f b a.
           let left = h.stands f (k.extends.keeps f b) in
           let right = k.stands f b in
-          let both = agree_append f ps ((x, y) ∷ []) in (
-            (λ a. let c = both.0 a in (c.0, (sym left ∙ c.1.0 ∙ right, tt))),
-            (λ s. both.1 (s.0, (left ∙ s.1.0 ∙ sym right, tt))),
-          );
+          let c = (agree_append f ps ((x, y) ∷ [])).0 a in
+          ((e.keeps f b, c.0), (sym left ∙ c.1.0 ∙ right, tt));
+      more = λ f b a s.
+          let g = e.more f b in
+          let left = h.stands g.0 (k.extends.keeps g.0 g.1) in
+          let right = k.stands g.0 g.1 in
+          let one = filled_below f g.0 t (length ts) bt g.2 in
+          let two = filled_below f g.0 u (length ts) bu g.2 in
+          let both = agree_append g.0 ps ((x, y) ∷ []) in
+          (g.0, (g.1, both.1 (agree_below f g.0 ps (length ts) w g.2 a, (left ∙ one ∙ s.0 ∙ sym two ∙ sym right, tt))), g.2);
     }
 
-pub loads_none : (ts : List TypeShape) (ps : List (ℕ × ℕ)) → AreFormed ts → ArePairsWithin (length ts) ps → LoadsAll ts ps [] ts ps
-loads_none ts ps h w = record { extends = extends_itself ts h; within = w; stands = λ f k. ((λ a. (a, tt)), (λ a. a.0)) }
+-- the same with the sides exchanged
+pub loads_turned : (ts us : List TypeShape) (ps qs : List (ℕ × ℕ)) (t u : TypeShape) → LoadsAll ts ps ((t ≐ u) ∷ []) us qs → LoadsAll ts ps ((u ≐ t) ∷ []) us qs
+loads_turned ts us ps qs t u h = record {
+  longer = h.longer;
+  formed = h.formed;
+  within = h.within;
+  solves = λ f b a. let c = h.solves f b a in (c.0, (sym c.1.0, tt));
+  more = λ f b a s. h.more f b a (sym s.0, tt);
+}
 
--- what the pairs so far and the equations that are left say
+pub loads_none : (ts : List TypeShape) (ps : List (ℕ × ℕ)) → AreFormed ts → ArePairsWithin (length ts) ps → LoadsAll ts ps [] ts ps
+loads_none ts ps h w = record { longer = omega arith; formed = h; within = w; solves = λ f b a. ((b, a), tt); more = λ f b a s. (f, (b, a), λ x l. refl) }
+
+-- what the table and pairs so far and the equations that are left say
 pub record LoadsSome (ts : List TypeShape) (ps : List (ℕ × ℕ)) (all : List ShapeEquation) (us : List TypeShape) (qs : List (ℕ × ℕ)) (rest : List ShapeEquation) : Type 0 where
-  pub extends : Extends ts us
+  pub longer : length ts ≤ length us
+  pub formed : AreFormed us
   pub within : ArePairsWithin (length us) qs
   pub bound : equations_bound rest ≤ length us
-  pub stands : (f : Filling) → Fits f us → (Agree f qs × FillingSolves f rest) ↔ (Agree f ps × FillingSolves f all)
+  pub solves : (f : Filling) → Fits f us → Agree f qs → FillingSolves f rest → (Fits f ts × Agree f ps) × FillingSolves f all
+  pub more : (f : Filling) → Fits f ts → Agree f ps → FillingSolves f all
+      → (g : Filling) × ((Fits g us × Agree g qs) × FillingSolves g rest) × ((x : ℕ) → x < length ts → g x ≡ f x)
 
 pub loads_first : (ts : List TypeShape) (ps : List (ℕ × ℕ)) (es : List ShapeEquation) → AreFormed ts → ArePairsWithin (length ts) ps → equations_bound es ≤ length ts → LoadsSome ts ps es ts ps es
-loads_first ts ps es h w b = record { extends = extends_itself ts h; within = w; bound = b; stands = λ f k. ((λ a. a), (λ a. a)) }
+loads_first ts ps es h w b = record { longer = omega arith; formed = h; within = w; bound = b; solves = λ f k a s. ((k, a), s); more = λ f k a s. (f, ((k, a), s), λ x l. refl) }
 
 pub loads_more : (ts : List TypeShape) (ps : List (ℕ × ℕ)) (all : List ShapeEquation) (us vs : List TypeShape) (qs rs : List (ℕ × ℕ)) (t u : TypeShape) (rest : List ShapeEquation)
     → LoadsSome ts ps all us qs ((t ≐ u) ∷ rest) → LoadsAll us qs ((t ≐ u) ∷ []) vs rs → LoadsSome ts ps all vs rs rest
-loads_more ts ps all us vs qs rs t u rest h k = record {
-  extends = extends_on ts us vs h.extends k.extends;
-  within = k.within;
-  bound = let a = h.bound in let b = k.extends.longer in omega arith;
-  stands = λ f e.
-      let a = h.stands f (k.extends.keeps f e) in
-      let b = k.stands f e in (
-        (λ s. let c = b.0 s.0 in a.0 (c.0, (c.1.0, s.1))),
-        (λ s. let c = a.1 s in (b.1 (c.0, (c.1.0, tt)), c.1.1)),
-      );
-}
+loads_more ts ps all us vs qs rs t u rest h k =
+    let b : equations_bound rest ≤ length us = let a = h.bound in omega arith in record {
+      longer = let a = h.longer in let c = k.longer in omega arith;
+      formed = k.formed;
+      within = k.within;
+      bound = let c = k.longer in omega arith;
+      solves = λ f e a s. let c = k.solves f e a in h.solves f c.0.0 c.0.1 (c.1.0, s);
+      more = λ f e a s.
+          let g = h.more f e a s in
+          let m = k.more g.0 g.1.0.0 g.1.0.1 (g.1.1.0, tt) in
+          let left = solves_below g.0 m.0 rest (length us) b m.2 g.1.1.1 in
+          (m.0, (m.1, left), λ x l. m.2 x (let n = h.longer in omega arith) ∙ g.2 x l);
+    }
 
 pub loads_end : (ts : List TypeShape) (ps : List (ℕ × ℕ)) (all : List ShapeEquation) (us : List TypeShape) (qs : List (ℕ × ℕ)) → LoadsSome ts ps all us qs [] → LoadsAll ts ps all us qs
 loads_end ts ps all us qs h = record {
-  extends = h.extends;
+  longer = h.longer;
+  formed = h.formed;
   within = h.within;
-  stands = λ f e. let a = h.stands f e in ((λ s. a.0 (s, tt)), (λ s. (a.1 s).0));
+  solves = λ f e a. h.solves f e a tt;
+  more = λ f e a s. let g = h.more f e a s in (g.0, g.1.0, g.2);
 }
 
 -- the element at a place, in a loop over all

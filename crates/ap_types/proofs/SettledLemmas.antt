@@ -11,8 +11,9 @@ use Rattle.ap_types.specs.Assignments.{IsUnsolvable, name_equations, Narrows, Is
 use Rattle.ap_types.specs.Triangular.{shapes_of_nodes, value_of, values_from, Fits, IsFormed, AreFormed, IsSettledTable}
 use Rattle.ap_types.specs.Joining.{Agree, LoadsAll, LoadsSystem, Settles, Rewrites, TablesLead, NeverAgree, link}
 use Rattle.ap_types.specs.Walking.{NoneFits}
-use Rattle.ap_types.proofs.ShapeLemmas.{filled_filled, filled_same, filled_below}
+use Rattle.ap_types.proofs.ShapeLemmas.{filled_filled, filled_same}
 use Rattle.ap_types.proofs.TableLemmas.{at_past}
+use Rattle.ap_types.proofs.LoadLemmas.{solves_below}
 use Rattle.ap_types.proofs.NameLemmas.{names_solved, bound_names}
 use Rattle.ap_types.proofs.WalkLemmas.{weight, part_less, open_or_parts, read_open}
 
@@ -75,12 +76,6 @@ value_index ts x (suc n) (suc y) d l = let e : suc x + y ≡ x + suc y = omega a
 pub value_at : (ts : List TypeShape) (n y : ℕ) → y < n → shape_at (values_from ts 0 n) y ≡ value_of ts y
 value_at ts n y l = let e : 0 + y ≡ y = omega arith in value_index ts 0 n y (hole y) l ∙ ap (value_of ts) e
 
--- equations are solved alike by what agrees on their holes
-pub solves_below : (f g : Filling) (es : List ShapeEquation) (n : ℕ) → equations_bound es ≤ n → ((x : ℕ) → x < n → g x ≡ f x) → FillingSolves f es → FillingSolves g es
-solves_below f g [] n b h s = tt
-solves_below f g ((t ≐ u) ∷ es) n b h s =
-    (filled_below f g t n (omega arith) h ∙ s.0 ∙ sym (filled_below f g u n (omega arith) h), solves_below f g es n (omega arith) h s.1)
-
 -- The equations by their table.
 module _ (es : List ShapeEquation) (xs : List ℕ) (n holes : ℕ) (ts : List TypeShape) (ps : List (ℕ × ℕ)) (count : hole_count es xs ≡ holes) (loads : LoadsSystem es (name_equations n xs) holes ts ps) where
   bound_first : equations_bound es ≤ holes
@@ -91,10 +86,7 @@ module _ (es : List ShapeEquation) (xs : List ℕ) (n holes : ℕ) (ts : List Ty
 
   agreeing : (f : Filling) → IsSolution es xs n f → (g : Filling) × (Fits g ts × Agree g ps) × ((x : ℕ) → x < holes → g x ≡ f x)
   agreeing f s =
-      let m = loads.more f in
-      let one = solves_below f m.0 es holes bound_first m.2 s.0 in
-      let two = solves_below f m.0 (name_equations n xs) holes bound_second m.2 (names_solved n f xs s.1) in
-      (m.0, (m.1, (loads.stands m.0 m.1).1 (one, two)), m.2)
+      loads.more f s.0 (names_solved n f xs s.1)
 
   pub narrows_settled : (us : List TypeShape) → Settles ts ps us → Narrows es xs n (values_from us 0 holes)
   narrows_settled us h = record {
@@ -105,7 +97,7 @@ module _ (es : List ShapeEquation) (xs : List ℕ) (n holes : ℕ) (ts : List Ty
     back = λ g f k.
         let φ : Filling = λ x. filled g (value_of us x) in
         let a = (h.solved φ).1 (instance_fits us h.settled g) in
-        let s = (loads.stands φ a.0).0 a.1 in
+        let s = loads.solves φ a.0 a.1 in
         let same : (x : ℕ) → x < holes → f x ≡ φ x = λ x l. let e : 0 + x ≡ x = omega arith in subst (λ z. f z ≡ filled g (value_of us z)) e (values_filled us g f 0 holes x k l) in
         (solves_below φ f es holes bound_first same s.0, solves_below φ f (name_equations n xs) holes bound_second same s.1);
     as_many = length_values us 0 holes ∙ sym count;
@@ -116,21 +108,16 @@ module _ (es : List ShapeEquation) (xs : List ℕ) (n holes : ℕ) (ts : List Ty
 
 -- Loading both lists of equations.
 pub loads_system : (es fs : List ShapeEquation) (holes : ℕ) (os ts us : List TypeShape) (ps qs : List (ℕ × ℕ)) → ((x : ℕ) → shape_at os x ≡ hole x) → length os ≡ holes
-    → LoadsAll os [] es ts ps → LoadsAll ts ps fs us qs → LoadsSystem es fs holes us qs
-loads_system es fs holes os ts us ps qs opened long h k = record {
-  formed = k.extends.formed;
+    → equations_bound fs ≤ holes → LoadsAll os [] es ts ps → LoadsAll ts ps fs us qs → LoadsSystem es fs holes us qs
+loads_system es fs holes os ts us ps qs opened long bound h k = record {
+  formed = k.formed;
   within = k.within;
-  longer = let a = h.extends.longer in let b = k.extends.longer in omega arith;
-  more = λ f.
-      let a = h.extends.more f (λ x. sym (ap (filled f) (opened x))) in
-      let b = k.extends.more a.0 a.1 in
-      (b.0, b.1, λ x l. b.2 x (let m = h.extends.longer in omega arith) ∙ a.2 x (omega arith));
-  stands = λ f e.
-      let a = h.stands f (k.extends.keeps f e) in
-      let b = k.stands f e in (
-        (λ s. let c = b.0 s in ((a.0 c.0).1, c.1)),
-        (λ s. b.1 (a.1 (tt, s.0), s.1)),
-      );
+  longer = let a = h.longer in let b = k.longer in omega arith;
+  solves = λ f e a. let b = k.solves f e a in ((h.solves f b.0.0 b.0.1).1, b.1);
+  more = λ f s r.
+      let a = h.more f (λ x. sym (ap (filled f) (opened x))) tt s in
+      let b = k.more a.0 a.1.0 a.1.1 (solves_below f a.0 fs holes bound (λ x l. a.2 x (omega arith)) r) in
+      (b.0, b.1, λ x l. b.2 x (let m = h.longer in omega arith) ∙ a.2 x (omega arith));
 }
 
 pub open_formed : (os : List TypeShape) → ((x : ℕ) → shape_at os x ≡ hole x) → AreFormed os

@@ -31,11 +31,13 @@ pub record Loads (old : List TypeShape) (t : TypeShape) (new : List TypeShape) (
   pub within : x < length new
   pub stands : (f : Filling) → Fits f new → f x ≡ filled f t
 
--- The pairs stand for the equations.
+-- The new table and pairs say of the old places what the old ones and the equations say.
 pub record LoadsAll (old : List TypeShape) (before : List (ℕ × ℕ)) (es : List ShapeEquation) (new : List TypeShape) (after : List (ℕ × ℕ)) : Type 0 where
-  pub extends : Extends old new
+  pub longer : length old ≤ length new
+  pub formed : AreFormed new
   pub within : ArePairsWithin (length new) after
-  pub stands : (f : Filling) → Fits f new → Agree f after ↔ (Agree f before × FillingSolves f es)
+  pub solves : (f : Filling) → Fits f new → Agree f after → (Fits f old × Agree f before) × FillingSolves f es
+  pub more : (f : Filling) → Fits f old → Agree f before → FillingSolves f es → (g : Filling) × (Fits g new × Agree g after) × ((x : ℕ) → x < length old → g x ≡ f x)
 
 abbrev pub is_root : ℕ → TypeShape → Bool
 is_root x (hole y) = x == y
@@ -124,13 +126,13 @@ pub record TablesLead (ts : List TypeShape) (ps : List (ℕ × ℕ)) (ts' : List
 abbrev pub NeverAgree : List TypeShape → List (ℕ × ℕ) → Type 0
 NeverAgree ts ps = (f : Filling) → Fits f ts → Agree f ps → ⊥
 
--- The pairs stand for two lists of equations of holes that are the first places, and don't say more of these.
+-- The table and pairs say of holes, which are the first places, what two lists of equations say.
 pub record LoadsSystem (es fs : List ShapeEquation) (holes : ℕ) (ts : List TypeShape) (ps : List (ℕ × ℕ)) : Type 0 where
   pub formed : AreFormed ts
   pub within : ArePairsWithin (length ts) ps
   pub longer : holes ≤ length ts
-  pub more : (f : Filling) → (g : Filling) × Fits g ts × ((x : ℕ) → x < holes → g x ≡ f x)
-  pub stands : (f : Filling) → Fits f ts → Agree f ps ↔ (FillingSolves f es × FillingSolves f fs)
+  pub solves : (f : Filling) → Fits f ts → Agree f ps → FillingSolves f es × FillingSolves f fs
+  pub more : (f : Filling) → FillingSolves f es → FillingSolves f fs → (g : Filling) × (Fits g ts × Agree g ps) × ((x : ℕ) → x < holes → g x ≡ f x)
 
 -- What fits and makes the pairs alike is what fits the other table, in which no place stands within itself.
 pub record Settles (ts : List TypeShape) (ps : List (ℕ × ℕ)) (ts' : List TypeShape) : Type 0 where

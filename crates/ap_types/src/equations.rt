@@ -157,27 +157,69 @@ fn settled(alloc: Global, loaded: Loaded) -> Result<(Vec<Node>, Vec<usize>), Typ
     Ok((nodes, order))
 }
 
+/// A table of equations that is not solved yet, and how many of its first places are holes.
+#[derive(Drop)]
+struct Unsolved {
+    loaded: Loaded,
+    holes: usize,
+}
+
+/// The equations and those by which holes are the one name type, put into a table whose first places are all
+/// holes that they have.
+fn begun(
+    alloc: Global,
+    equations: &[(Shape, Shape)],
+    names: &[u64],
+    name_types: u32,
+) -> Result<Unsolved, Memory>
+    ensures holes { IfOk result (λ b. b.holes
+        ≡ hole_count (map equation_of equations.now) names.now) }
+    ensures loads { IfOk result (λ b. LoadsSystem (map equation_of equations.now)
+        (name_equations name_types names.now) b.holes (shapes_of_nodes b.loaded.nodes.items)
+        b.loaded.pairs.items) }
+{
+    let in_equations = bound_in_equations(alloc, equations)?;
+    let in_names = bound_in_names(names)?;
+    let holes = greater(in_equations, in_names);
+    let loaded = load_system(alloc, equations, names, name_types, holes)?;
+    Ok(Unsolved { loaded, holes })
+}
+
+/// The same for equations that are let go then, so that they don't stand beside what is made of their table.
+fn begun_of(
+    alloc: Global,
+    equations: Vec<(Shape, Shape)>,
+    names: &[u64],
+    name_types: u32,
+) -> Result<Unsolved, Memory>
+    ensures holes { IfOk result (λ b. b.holes
+        ≡ hole_count (map equation_of equations.items) names.now) }
+    ensures loads { IfOk result (λ b. LoadsSystem (map equation_of equations.items)
+        (name_equations name_types names.now) b.holes (shapes_of_nodes b.loaded.nodes.items)
+        b.loaded.pairs.items) }
+{
+    begun(alloc, equations.as_slice(), names, name_types)
+}
+
 /// A table that has every solution of the equations, before it is tested whether the holes that must be
 /// name types can be.
 fn narrowed(
     alloc: Global,
-    equations: &[(Shape, Shape)],
+    equations: Vec<(Shape, Shape)>,
     names: &[u64],
     name_types: u32,
 ) -> Result<Solved, TypesError>
     ensures settled { IfOk result (λ s. IsSettledTable (shapes_of_nodes s.nodes.items)) }
     ensures order { IfOk result (λ s. AreInOrder (shapes_of_nodes s.nodes.items) s.order.items) }
     ensures holes { IfOk result (λ s. s.holes
-        ≡ hole_count (map equation_of equations.now) names.now) }
-    ensures narrows { IfOk result (λ s. Narrows (map equation_of equations.now) names.now name_types
-        (assignment_of s)) }
+        ≡ hole_count (map equation_of equations.items) names.now) }
+    ensures narrows { IfOk result (λ s. Narrows (map equation_of equations.items) names.now
+        name_types (assignment_of s)) }
     ensures clash { IfErr result (λ e. e ≡ TypesError.Clash →
-        IsUnsolvable (map equation_of equations.now) names.now name_types) }
+        IsUnsolvable (map equation_of equations.items) names.now name_types) }
 {
-    let in_equations = bound_in_equations(alloc, equations)?;
-    let in_names = bound_in_names(names)?;
-    let holes = greater(in_equations, in_names);
-    let loaded = load_system(alloc, equations, names, name_types, holes)?;
+    let first = begun_of(alloc, equations, names, name_types)?;
+    let Unsolved { loaded, holes } = first;
     let (nodes, order) = settled(alloc, loaded)?;
     Ok(Solved {
         nodes,
@@ -189,25 +231,26 @@ fn narrowed(
 /// The most general assignment of types to the holes of equations, as a table.
 ///
 /// As `solve`, whose assignment it stands for; it takes room and, but for the following of links, time
-/// as the equations do. `value_of` writes out the shape of a hole.
+/// as the equations do, which are let go once they stand in the table. `value_of` writes out the shape of a
+/// hole.
 pub fn solved(
     alloc: Global,
-    equations: &[(Shape, Shape)],
+    equations: Vec<(Shape, Shape)>,
     names: &[u64],
     name_types: u32,
 ) -> Result<Solved, TypesError>
     ensures settled { IfOk result (λ s. IsSettledTable (shapes_of_nodes s.nodes.items)) }
     ensures order { IfOk result (λ s. AreInOrder (shapes_of_nodes s.nodes.items) s.order.items) }
     ensures in_order { IfOk result (λ s. s.holes
-        ≡ hole_count (map equation_of equations.now) names.now) }
+        ≡ hole_count (map equation_of equations.items) names.now) }
     ensures most_general { IfOk result (λ s. (f : Filling) →
-        IsSolution (map equation_of equations.now) names.now name_types f
+        IsSolution (map equation_of equations.items) names.now name_types f
         ↔ (IsShapeInstance (assignment_of s) f × GivesNames name_types f names.now)) }
     ensures constrained { IfOk result (λ s. AreNames name_types (assignment_of s) names.now) }
     ensures solvable { IfOk result (λ s. (f : Filling)
-        × IsSolution (map equation_of equations.now) names.now name_types f) }
+        × IsSolution (map equation_of equations.items) names.now name_types f) }
     ensures clash { IfErr result (λ e. e ≡ TypesError.Clash →
-        IsUnsolvable (map equation_of equations.now) names.now name_types) }
+        IsUnsolvable (map equation_of equations.items) names.now name_types) }
 {
     if name_types == 0 && names.len() > 0 {
         return Err(TypesError::Clash);
@@ -230,22 +273,22 @@ pub fn solved(
 /// stand once, after Huet; the shapes that are given may be exponentially larger than the equations.
 pub fn solve(
     alloc: Global,
-    equations: &[(Shape, Shape)],
+    equations: Vec<(Shape, Shape)>,
     names: &[u64],
     name_types: u32,
 ) -> Result<Assignment, TypesError>
     ensures in_order { IfOk result (λ a. length a.holes
-        ≡ hole_count (map equation_of equations.now) names.now) }
+        ≡ hole_count (map equation_of equations.items) names.now) }
     ensures most_general { IfOk result (λ a. (f : Filling) →
-        IsSolution (map equation_of equations.now) names.now name_types f
+        IsSolution (map equation_of equations.items) names.now name_types f
         ↔ (IsShapeInstance (map shape_of a.holes) f × GivesNames name_types f names.now)) }
     ensures constrained { IfOk result (λ a. AreNames name_types (map shape_of a.holes) names.now) }
 
     // An assignment that is given has a solution, so a clash is never left out.
     ensures solvable { IfOk result (λ a. (f : Filling)
-        × IsSolution (map equation_of equations.now) names.now name_types f) }
+        × IsSolution (map equation_of equations.items) names.now name_types f) }
     ensures clash { IfErr result (λ e. e ≡ TypesError.Clash →
-        IsUnsolvable (map equation_of equations.now) names.now name_types) }
+        IsUnsolvable (map equation_of equations.items) names.now name_types) }
 {
     let solved = solved(alloc, equations, names, name_types)?;
     let holes = written_out(alloc, &solved)?;

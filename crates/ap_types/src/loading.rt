@@ -1,10 +1,10 @@
 //! Shapes and equations put into a table.
 
-ghost use Rattle.std.specs.Prelude.{◌≡◌, ℕ, ◌+◌, ◌<◌, ◌≤◌, ◌++◌, ◌∷◌, [], length, map, IfOk, OnOk};
+ghost use Rattle.std.specs.Prelude.{◌≡◌, ℕ, ◌+◌, ◌<◌, ◌≤◌, ◌++◌, ◌∷◌, [], List, length, map, true, false, IfOk, IfSome, OnOk};
 ghost use Rattle.ap_defs.specs.Types.{shape_of, hole};
 ghost use Rattle.ap_types.specs.Equations.{◌≐◌, equation_of, bound_of, equations_bound};
 ghost use Rattle.ap_types.specs.Solving.{shape_at};
-ghost use Rattle.ap_types.specs.Triangular.{layer_of, shapes_of_nodes, AreFormed};
+ghost use Rattle.ap_types.specs.Triangular.{layer_of, shapes_of_nodes, IsFormed, AreFormed};
 ghost use Rattle.ap_types.specs.Loading.{lent_shapes, taken, place_in, parts_taken, entry_in};
 ghost use Rattle.ap_types.specs.Joining.{ArePairsWithin, Loads, LoadsAll};
 
@@ -130,13 +130,91 @@ fn load(alloc: Global, nodes: &mut Vec<Node>, t: &Shape) -> Result<usize, Memory
     }
 }
 
+/// The entry of a shape whose parts are holes, if it is one.
+fn entry_of_holes(t: &Shape) -> Option<Node>
+    ensures { IfSome result (λ n. layer_of n ≡ shape_of t.now) }
+{
+    match t {
+        Shape::Hole(x) => Some(Node::Place(*x as usize)),
+        Shape::Unit => Some(Node::Unit),
+        Shape::Names(sort) => Some(Node::Names(*sort)),
+        Shape::Base(base) => Some(Node::Base(*base)),
+        Shape::Pair(left, right) => match (&**left, &**right) {
+            (Shape::Hole(x), Shape::Hole(y)) => Some(Node::Pair(*x as usize, *y as usize)),
+            _ => None,
+        },
+        Shape::List(element) => match &**element {
+            Shape::Hole(x) => Some(Node::List(*x as usize)),
+            _ => None,
+        },
+        Shape::Abs(left, right) => match (&**left, &**right) {
+            (Shape::Hole(x), Shape::Hole(y)) => Some(Node::Abs(*x as usize, *y as usize)),
+            _ => None,
+        },
+    }
+}
+
+/// Whether a place is open, and an entry can stand for it: it is not a later place.
+fn may_stand_for(nodes: &[Node], x: usize, entry: Node) -> bool
+    requires { x < length nodes.now }
+    ensures opened { result ≡ true → shape_at (shapes_of_nodes nodes.now) x ≡ hole x }
+    ensures formed { result ≡ true → bound_of (layer_of entry) ≤ length nodes.now →
+        IsFormed (length nodes.now) x (layer_of entry) }
+{
+    let is_open = match nodes[x] {
+        Node::Place(y) => y == x,
+        _ => false,
+    };
+    match entry {
+        Node::Place(y) => is_open && y <= x,
+        _ => is_open,
+    }
+}
+
+/// Puts a shape into the place of a hole, where that is open and the shape has no parts but holes, and answers
+/// whether it did.
+fn fill(nodes: &mut Vec<Node>, side: &Shape, t: &Shape) -> bool
+    requires formed { AreFormed (shapes_of_nodes nodes.old.items) }
+    requires left { bound_of (shape_of side.now) ≤ length nodes.old.items }
+    requires right { bound_of (shape_of t.now) ≤ length nodes.old.items }
+    ensures filled { result ≡ true → (ps : List (ℕ × ℕ)) →
+        ArePairsWithin (length nodes.old.items) ps → LoadsAll (shapes_of_nodes nodes.old.items) ps
+        ((shape_of side.now ≐ shape_of t.now) ∷ []) (shapes_of_nodes nodes.new.items) ps }
+    ensures kept { result ≡ false → nodes.new.items ≡ nodes.old.items }
+{
+    let Shape::Hole(number) = side else {
+        return false;
+    };
+    let x = *number as usize;
+    let Some(entry) = entry_of_holes(t) else {
+        return false;
+    };
+    if !may_stand_for(nodes.as_slice(), x, entry) {
+        return false;
+    }
+    nodes[x] = entry;
+    true
+}
+
+/// Puts one side of an equation into the place of the other, where that is an open hole, and answers whether it
+/// did.
+fn fill_either(nodes: &mut Vec<Node>, left: &Shape, right: &Shape) -> bool
+    requires formed { AreFormed (shapes_of_nodes nodes.old.items) }
+    requires left { bound_of (shape_of left.now) ≤ length nodes.old.items }
+    requires right { bound_of (shape_of right.now) ≤ length nodes.old.items }
+    ensures filled { result ≡ true → (ps : List (ℕ × ℕ)) →
+        ArePairsWithin (length nodes.old.items) ps → LoadsAll (shapes_of_nodes nodes.old.items) ps
+        ((shape_of left.now ≐ shape_of right.now) ∷ []) (shapes_of_nodes nodes.new.items) ps }
+    ensures kept { result ≡ false → nodes.new.items ≡ nodes.old.items }
+{
+    if fill(nodes, left, right) {
+        return true;
+    }
+    fill(nodes, right, left)
+}
+
 /// Puts both sides of an equation into a table, with the pair of their places.
-fn load_equation(
-    alloc: Global,
-    loaded: Loaded,
-    left: &Shape,
-    right: &Shape,
-) -> Result<Loaded, Memory>
+fn load_sides(alloc: Global, loaded: Loaded, left: &Shape, right: &Shape) -> Result<Loaded, Memory>
     requires formed { AreFormed (shapes_of_nodes loaded.nodes.items) }
     requires left { bound_of (shape_of left.now) ≤ length loaded.nodes.items }
     requires right { bound_of (shape_of right.now) ≤ length loaded.nodes.items }
@@ -153,6 +231,29 @@ fn load_equation(
     let right = load(alloc, &mut nodes, right)?;
     pairs.push((left, right))?;
     Ok(Loaded { nodes, pairs })
+}
+
+/// Puts an equation into a table: a side without parts but holes into the place of the other, where that is an open
+/// hole, which takes no further place and leaves no pair; else both sides, with the pair of their places.
+fn load_equation(
+    alloc: Global,
+    loaded: Loaded,
+    left: &Shape,
+    right: &Shape,
+) -> Result<Loaded, Memory>
+    requires formed { AreFormed (shapes_of_nodes loaded.nodes.items) }
+    requires left { bound_of (shape_of left.now) ≤ length loaded.nodes.items }
+    requires right { bound_of (shape_of right.now) ≤ length loaded.nodes.items }
+    requires within { ArePairsWithin (length loaded.nodes.items) loaded.pairs.items }
+    ensures { IfOk result (λ l. LoadsAll (shapes_of_nodes loaded.nodes.items) loaded.pairs.items
+        ((shape_of left.now ≐ shape_of right.now) ∷ []) (shapes_of_nodes l.nodes.items)
+        l.pairs.items) }
+{
+    let Loaded { mut nodes, pairs } = loaded;
+    if fill_either(&mut nodes, left, right) {
+        return Ok(Loaded { nodes, pairs });
+    }
+    load_sides(alloc, Loaded { nodes, pairs }, left, right)
 }
 
 /// Puts equations into a table, with the pairs of their sides' places.

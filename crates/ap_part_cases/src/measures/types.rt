@@ -24,7 +24,7 @@ fn equations(alloc: Global) -> Result<Vec<(Shape, Shape)>, Memory> {
 }
 
 fn solved(alloc: Global) -> Result<usize, Memory> {
-    match solve(alloc, &equations(alloc)?, &[], 0) {
+    match solve(alloc, equations(alloc)?, &[], 0) {
         Ok(assignment) => Ok(assignment.holes.items().len()),
         Err(TypesError::Clash) => Ok(0),
         Err(TypesError::Memory) => Err(Memory),

@@ -30,7 +30,7 @@ returns-then-goes-clause-wanted c =
     c.wanted_after.ensures
     ∙ ap (λ (xs : List Out). wanted_after c.args.wanted.now (outs_of xs)) (rest_taken c.len-before.result c.deref.result.now)
     ∙ ap₂ (λ (n : ℕ) (xs : List Out). wanted_after c.args.wanted.now (outs_of (drop n xs))) before c.deref.ensures.value
-    ∙ wanted_since c.args.wanted.now c.args.paths c.args.outs.now.items c.turn_on.new.outs.items
+    ∙ wanted_since c.args.wanted.now c.args.paths c.args.outs.now.items c.lean_turn.new.outs.items
     (ended_outs (turned (program_in c.args.clauses.now) (locals_of c.args.locals.now) (position_of c.args.machine.now))) c.in_ok-goes.ensures.outs
 
 pub returns-else-goes-clause-wanted : goal.returns-else-goes-clause-wanted
@@ -40,5 +40,5 @@ returns-else-goes-clause-wanted c =
     (c.wanted_after.ensures
     ∙ ap (λ (xs : List Out). wanted_after c.args.wanted.now (outs_of xs)) (rest_taken c.len-before.result c.deref.result.now)
     ∙ ap₂ (λ (n : ℕ) (xs : List Out). wanted_after c.args.wanted.now (outs_of (drop n xs))) before c.deref.ensures.value
-    ∙ wanted_since c.args.wanted.now c.args.paths c.args.outs.now.items c.turn_on.new.outs.items
+    ∙ wanted_since c.args.wanted.now c.args.paths c.args.outs.now.items c.lean_turn.new.outs.items
     (ended_outs (turned (program_in c.args.clauses.now) (locals_of c.args.locals.now) (position_of c.args.machine.now))) c.in_ok-goes.ensures.outs)

@@ -10,10 +10,10 @@ use Rattle.ap_typecheck.proofs.Counting.{program_count}
 use Rattle.ap_typecheck.proofs.checking.check.Goals as goal
 
 pub returns-in-Ok-clause-typed : goal.returns-in-Ok-clause-typed
-returns-in-Ok-clause-typed c = program_typed (items_of_text c.args.items.now) (program_over raw_of c.in-Ok.program) (c.in-Ok.ensures (items_of_text c.args.items.now) c.in_ok-typing.ensures.made)
+returns-in-Ok-clause-typed c = program_typed (items_of_text c.args.items.items) (program_over raw_of c.in-Ok.program) (c.in-Ok.ensures (items_of_text c.args.items.items) c.in_ok-typing.ensures.made)
 
 pub returns-in-Ok-clause-bounded : goal.returns-in-Ok-clause-bounded
 returns-in-Ok-clause-bounded c =
-    let few : item_count (program_over raw_of c.in-Ok.program) ≤ length (items_of_text c.args.items.now) = program_count (items_of_text c.args.items.now) (program_over raw_of c.in-Ok.program) (c.in-Ok.ensures (items_of_text c.args.items.now) c.in_ok-typing.ensures.made) in
-    let long : length (items_of_text c.args.items.now) ≡ length c.args.items.now = length-map c.args.items.now item_of in
+    let few : item_count (program_over raw_of c.in-Ok.program) ≤ length (items_of_text c.args.items.items) = program_count (items_of_text c.args.items.items) (program_over raw_of c.in-Ok.program) (c.in-Ok.ensures (items_of_text c.args.items.items) c.in_ok-typing.ensures.made) in
+    let long : length (items_of_text c.args.items.items) ≡ length c.args.items.items = length-map c.args.items.items item_of in
     omega (arith, few, long)

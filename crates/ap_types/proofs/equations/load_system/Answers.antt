@@ -16,7 +16,7 @@ load_all-requires-2-clause-bound c =
     ap (λ (s : List (Shape × Shape)). map equation_of s) c.as_slice.ensures.value ∙ c.in_ok-by_names.ensures in
     let same : equations_bound (map equation_of c.as_slice.result.now) ≡ equations_bound (name_equations c.args.name_types c.args.names.now) = ap equations_bound extra in
     let bound = bound_names c.args.name_types c.args.names.now in
-    let longer = c.in_ok-loaded.ensures.extends.longer in
+    let longer = c.in_ok-loaded.ensures.longer in
     let one = length_table c.in_ok-nodes.nodes.items in
     let two = length_table c.in_ok-loaded.loaded.nodes.items in
     omega (arith, c.requires, c.in_ok-nodes.ensures.len)
@@ -31,5 +31,6 @@ returns c =
     let extra : map equation_of c.as_slice.result.now ≡ fs = ap (λ (s : List (Shape × Shape)). map equation_of s) c.as_slice.ensures.value ∙ c.in_ok-by_names.ensures in
     let first : LoadsAll os [] es ts ps = subst (λ (qs : List (ℕ × ℕ)). LoadsAll os qs es ts ps) c.in_ok-pairs.ensures.items c.in_ok-loaded.ensures in
     loaded_system c.load_all-2.result es fs c.args.holes ts ps
-    (λ us qs k. loads_system es fs c.args.holes os ts us ps qs c.in_ok-nodes.ensures.opened (length_table c.in_ok-nodes.nodes.items ∙ c.in_ok-nodes.ensures.len) first k)
+    (λ us qs k. loads_system es fs c.args.holes os ts us ps qs c.in_ok-nodes.ensures.opened (length_table c.in_ok-nodes.nodes.items ∙ c.in_ok-nodes.ensures.len)
+    (let bound = bound_names c.args.name_types c.args.names.now in omega (arith, c.requires)) first k)
     (subst (λ (gs : List ShapeEquation). IfOk c.load_all-2.result (λ l. LoadsAll ts ps gs (shapes_of_nodes l.nodes.items) l.pairs.items)) extra c.load_all-2.ensures)

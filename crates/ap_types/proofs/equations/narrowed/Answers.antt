@@ -1,6 +1,6 @@
-use Rattle.std.proofs.Common.{◌≡◌, map, arith}
+use Rattle.std.proofs.Common.{map, sym}
 use Rattle.std.proofs.lemmas.Result.{err_from_is_err_and}
-use Rattle.ap_types.specs.Equations.{equation_of, hole_count}
+use Rattle.ap_types.specs.Equations.{equation_of}
 use Rattle.ap_types.specs.Triangular.{shapes_of_nodes}
 use Rattle.ap_types.proofs.SettledLemmas.{narrows_settled, unsolvable_never}
 use Rattle.ap_types.proofs.equations.narrowed.Goals as goal
@@ -8,14 +8,14 @@ use Rattle.ap_types.proofs.equations.narrowed.Goals as goal
 pub returns-in_err-nodes-clause-clash : goal.returns-in_err-nodes-clause-clash
 returns-in_err-nodes-clause-clash c =
     let p = err_from_is_err_and c.from_residual-in_err-nodes.result c.from_residual-in_err-nodes.ensures.1 in
-    let es = map equation_of c.args.equations.now in
-    let count : hole_count es c.args.names.now ≡ c.greater-holes.result = omega (arith, c.greater-holes.ensures, c.in_ok-in_equations.ensures, c.in_ok-in_names.ensures) in
-    rw (p.1, p.2) (λ i. unsolvable_never es c.args.names.now c.args.name_types c.greater-holes.result (shapes_of_nodes c.in_ok-loaded.loaded.nodes.items) c.in_ok-loaded.loaded.pairs.items
-    count c.in_ok-loaded.ensures (c.in_err-nodes.ensures.clash i))
+    let es = map equation_of c.args.equations.items in
+    let b = c.in_ok-first.first in
+    rw (p.1, p.2) (λ i. unsolvable_never es c.args.names.now c.args.name_types b.holes (shapes_of_nodes b.loaded.nodes.items) b.loaded.pairs.items
+    (sym c.in_ok-first.ensures.holes) c.in_ok-first.ensures.loads (c.in_err-nodes.ensures.clash i))
 
 pub returns-clause-narrows : goal.returns-clause-narrows
 returns-clause-narrows c =
-    let es = map equation_of c.args.equations.now in
-    let count : hole_count es c.args.names.now ≡ c.greater-holes.result = omega (arith, c.greater-holes.ensures, c.in_ok-in_equations.ensures, c.in_ok-in_names.ensures) in
-    narrows_settled es c.args.names.now c.args.name_types c.greater-holes.result (shapes_of_nodes c.in_ok-loaded.loaded.nodes.items) c.in_ok-loaded.loaded.pairs.items
-    count c.in_ok-loaded.ensures (shapes_of_nodes c.in_ok-nodes.nodes.items) c.in_ok-nodes.ensures.ok
+    let es = map equation_of c.args.equations.items in
+    let b = c.in_ok-first.first in
+    narrows_settled es c.args.names.now c.args.name_types b.holes (shapes_of_nodes b.loaded.nodes.items) b.loaded.pairs.items
+    (sym c.in_ok-first.ensures.holes) c.in_ok-first.ensures.loads (shapes_of_nodes c.in_ok-nodes.nodes.items) c.in_ok-nodes.ensures.ok

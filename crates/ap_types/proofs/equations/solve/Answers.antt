@@ -14,7 +14,7 @@ returns-clause-in_order c =
 
 pub returns-clause-most_general : goal.returns-clause-most_general
 returns-clause-most_general c =
-    let es = map equation_of c.args.equations.now in
+    let es = map equation_of c.args.equations.items in
     let xs = c.args.names.now in
     let n = c.args.name_types in
     let is : map shape_of c.of.result ≡ assignment_of c.in_ok-solved.solved = ap (map shape_of) c.of.ensures ∙ c.in_ok-holes.ensures in

@@ -11,12 +11,12 @@ pub returns-then-names-gt0-clause-clash : goal.returns-then-names-gt0-clause-cla
 returns-then-names-gt0-clause-clash c =
     let none : c.args.name_types ≡ 0 = c.if-name_types-eq0.true in
     let some : 0 < length c.args.names.now = omega arith in
-    λ e. subst (IsUnsolvable (map equation_of c.args.equations.now) c.args.names.now) (sym none) (unsolvable_without (map equation_of c.args.equations.now) c.args.names.now some)
+    λ e. subst (IsUnsolvable (map equation_of c.args.equations.items) c.args.names.now) (sym none) (unsolvable_without (map equation_of c.args.equations.items) c.args.names.now some)
 
 pub returns-then-not-are_names_or_holes-clause-clash : goal.returns-then-not-are_names_or_holes-clause-clash
 returns-then-not-are_names_or_holes-clause-clash c =
     let refused : c.are_names_or_holes.result ≡ false = search rules in
-    λ e. narrows_unsolvable (map equation_of c.args.equations.now) c.args.names.now c.args.name_types (assignment_of c.in_ok-solved.solved) c.in_ok-solved.ensures.narrows
+    λ e. narrows_unsolvable (map equation_of c.args.equations.items) c.args.names.now c.args.name_types (assignment_of c.in_ok-solved.solved) c.in_ok-solved.ensures.narrows
     (λ k. let found : c.are_names_or_holes.result ≡ true = c.are_names_or_holes.ensures.1 k in cc)
 
 named : (c : goal.Else-not-are_names_or_holes) → (c.args.name_types ≡ 0 → c.args.names.now ≡ [])
@@ -27,7 +27,7 @@ named c = elim c.else-name_types-eq0.branch [
 
 names_are : (c : goal.Else-not-are_names_or_holes) → AreNames c.args.name_types (assignment_of c.in_ok-solved.solved) c.args.names.now
 names_are c =
-    narrows_constrained (map equation_of c.args.equations.now) c.args.names.now c.args.name_types (assignment_of c.in_ok-solved.solved) c.in_ok-solved.ensures.narrows (named c)
+    narrows_constrained (map equation_of c.args.equations.items) c.args.names.now c.args.name_types (assignment_of c.in_ok-solved.solved) c.in_ok-solved.ensures.narrows (named c)
     (c.if-not-are_names_or_holes.ensures.0 refl)
 
 pub returns-clause-constrained : goal.returns-clause-constrained
@@ -35,4 +35,4 @@ returns-clause-constrained c = names_are c
 
 pub returns-clause-solvable : goal.returns-clause-solvable
 returns-clause-solvable c =
-    narrows_solvable (map equation_of c.args.equations.now) c.args.names.now c.args.name_types (assignment_of c.in_ok-solved.solved) c.in_ok-solved.ensures.narrows (names_are c)
+    narrows_solvable (map equation_of c.args.equations.items) c.args.names.now c.args.name_types (assignment_of c.in_ok-solved.solved) c.in_ok-solved.ensures.narrows (names_are c)

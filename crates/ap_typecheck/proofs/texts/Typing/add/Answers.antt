@@ -10,10 +10,10 @@ check_item-requires-clause-small c = typing_small c.args.self.now c.requires.0 c
 
 pub returns-in-Err-clause-fault : goal.returns-in-Err-clause-fault
 returns-in-Err-clause-fault c = λ is more t.
-    subst (λ e. IsRefusedByTypes e (is ++ item_of c.args.item.now ∷ more)) (sym c.text_error.ensures)
-    (typing_refused c.in-Err.refusal c.args.self.now is more (item_of c.args.item.now) _ t refl c.in-Err.ensures.err)
+    subst (λ e. IsRefusedByTypes e (is ++ item_of c.args.item ∷ more)) (sym c.text_error.ensures)
+    (typing_refused c.in-Err.refusal c.args.self.now is more (item_of c.args.item) _ t refl c.in-Err.ensures.err)
 
 pub returns-clause-made : goal.returns-clause-made
 returns-clause-made c = λ is t.
     let new : Typing = record { state = c.check_item.new.state; words = c.add_form.new.words; items = c.args.self.now.items + 1 } in
-    typing_on c.args.self.now new is (item_of c.args.item.now) t c.in-Ok.ensures.flawless c.in-Ok.ensures.made c.in-Ok-add_form.ensures refl c.in-Ok.ensures.kept
+    typing_on c.args.self.now new is (item_of c.args.item) t c.in-Ok.ensures.flawless c.in-Ok.ensures.made c.in-Ok-add_form.ensures refl c.in-Ok.ensures.kept
