@@ -3,12 +3,17 @@ use Rattle.std.specs.Prelude.{◌≡◌, ℕ, suc, ◌≤◌, List, [], ◌∷�
 use Rattle.ap_search.specs.Continuations.{Waiting}
 use Rattle.ap_machine.specs.Views.{waiting_of}
 use Rattle.ap_machine.specs.declared.frames.Cell.{Cell}
+use Rattle.ap_machine.specs.declared.frames.Frame.{Frame}
+
+-- the frame that a cell has
+abbrev pub frame_of : Cell → Frame
+frame_of c = record { goal = c.goal; base = c.base; depth = c.depth }
 
 -- The goals that wait from each number on: none from 0 on, and from the number of a cell its goal, and then those from the number
 -- that the cell names.
 abbrev pub stacks_with : List (List Waiting) → List Cell → List (List Waiting)
 stacks_with before [] = before
-stacks_with before (c ∷ cs) = stacks_with (before ++ (waiting_of c.frame ∷ get_or before c.next []) ∷ []) cs
+stacks_with before (c ∷ cs) = stacks_with (before ++ (waiting_of (frame_of c) ∷ get_or before c.next []) ∷ []) cs
 
 abbrev pub waiting_at : List Cell → ℕ → List Waiting
 waiting_at cs n = get_or (stacks_with ([] ∷ []) cs) n []

@@ -12,9 +12,12 @@ pub struct Frame<'a> {
     pub depth: u32,
 }
 
-/// A goal that waits, and the number of the one behind it, from 1, or 0 where it is the last.
+/// A goal that waits, as a frame has it, and the number of the one behind it, from 1, or 0 where it is the last. A
+/// search has many, so one is small.
 #[derive(Clone, Copy)]
 pub struct Cell<'a> {
-    pub frame: Frame<'a>,
-    pub next: usize,
+    pub goal: &'a Goal<Term>,
+    pub base: u32,
+    pub depth: u32,
+    pub next: u32,
 }

@@ -1,12 +1,23 @@
 //! Goals that wait, on a stack.
 
-ghost use Rattle.std.specs.Prelude.{length, ◌≤◌};
-ghost use Rattle.ap_machine.specs.GoalStacks.{AreLinked};
+ghost use Rattle.std.specs.Prelude.{length, ◌≡◌, ◌≤◌};
+ghost use Rattle.ap_machine.specs.GoalStacks.{AreLinked, frame_of};
 ghost use Rattle.ap_machine.specs.GoalStackProps.{linked_prop};
 
 use crate::frames::{Cell, Frame};
 use ap_defs::memory::Memory;
 use std::alloc::Global;
+
+/// The frame that a cell has.
+fn frame_of<'a>(cell: &Cell<'a>) -> Frame<'a>
+    ensures { result ≡ frame_of cell.now }
+{
+    Frame {
+        goal: cell.goal,
+        base: cell.base as u64,
+        depth: cell.depth,
+    }
+}
 
 /// Goals that wait, one behind the other. Goals that waited earlier stay where they are, so that the
 /// search can go back to them by the number of cells and the number of the first goal's.
@@ -36,15 +47,24 @@ impl<'a> GoalStack<'a> {
         }
     }
 
-    /// A goal waits in front of the others.
+    /// A goal waits in front of the others. Numbers of `2 ^ 32` and more are want of memory, as they are to the
+    /// store, and so are as many cells.
     pub fn push(&mut self, frame: Frame<'a>) -> Result<(), Memory>
         ensures waiting { OnOk result (waiting_in self.new
             ≡ waiting_of frame.entry ∷ waiting_in self.old) }
         ensures longer { OnOk result (IsLonger (cells_of self.old) (cells_of self.new)) }
         ensures unchanged { OnErr result (waiting_in self.new ≡ waiting_in self.old) }
     {
-        let next = self.first;
-        self.cells.push(Cell { frame, next })?;
+        let Frame { goal, base, depth } = frame;
+        if base > u32::MAX as u64 || self.first > u32::MAX as usize {
+            return Err(Memory);
+        }
+        self.cells.push(Cell {
+            goal,
+            base: base as u32,
+            depth,
+            next: self.first as u32,
+        })?;
         self.first = self.cells.len();
         Ok(())
     }
@@ -58,7 +78,7 @@ impl<'a> GoalStack<'a> {
         if self.first == 0 {
             None
         } else {
-            Some(self.cells[self.first - 1].frame)
+            Some(frame_of(&self.cells[self.first - 1]))
         }
     }
 
@@ -72,8 +92,9 @@ impl<'a> GoalStack<'a> {
         if self.first == 0 {
             return None;
         }
-        let Cell { frame, next } = self.cells[self.first - 1];
-        self.first = next;
+        let cell = &self.cells[self.first - 1];
+        let frame = frame_of(cell);
+        self.first = cell.next as usize;
         Some(frame)
     }
 

@@ -7,7 +7,7 @@ use Rattle.ap_machine.proofs.goal_stack.GoalStack.push.Goals as goal
 pub invariant_of-self-2 : goal.invariant_of-self-2
 invariant_of-self-2 c =
     let cs = c.args.self.now.cells.items in
-    let d : Cell = record { frame = c.args.frame; next = c.args.self.now.first } in
+    let d : Cell = record { goal = c.args.frame.goal; base = c.args.frame.base; depth = c.args.frame.depth; next = c.args.self.now.first } in
     let e = c.in_ok-push.ensures.items in
     let n = c.len-self.ensures in
     let l : c.args.self.now.first ≤ 0 + length cs = let w = c.args.self.now.within in omega (arith, w) in
@@ -19,7 +19,7 @@ invariant_of-self-2 c =
 pub returns-clause-waiting : goal.returns-clause-waiting
 returns-clause-waiting c =
     let cs = c.args.self.now.cells.items in
-    let d : Cell = record { frame = c.args.frame; next = c.args.self.now.first } in
+    let d : Cell = record { goal = c.args.frame.goal; base = c.args.frame.base; depth = c.args.frame.depth; next = c.args.self.now.first } in
     let e : c.push.new.self.items ≡ cs ++ d ∷ [] = c.in_ok-push.ensures.items in
     let many : length c.push.new.self.items ≡ length cs + 1 = ap length e ∙ length-append cs (d ∷ []) in
     let n = c.len-self.ensures in
