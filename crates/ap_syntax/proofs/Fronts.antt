@@ -1,19 +1,25 @@
 -- The tokens of the first item read as all tokens do.
-use Rattle.std.proofs.Common.{◌≡◌, ℕ, suc, ◌+◌, ◌<◌, Bool, true, false, cond, List, [], ◌∷◌, length, take, drop, get_or, Option, None, Some, IfSome, Result, Ok, Err, nat_lt, refl, sym, ap, ◌∙◌, arith, subst, if◌then◌else◌}
+use Rattle.std.proofs.Common.{◌≡◌, ℕ, suc, ◌+◌, ◌<◌, Bool, true, false, cond, List, [], ◌∷◌, ◌++◌, append-nil, length, take, drop, get_or, Option, None, Some, IfSome, Result, Ok, Err, nat_lt, refl, sym, ap, ◌∙◌, arith, subst, if◌then◌else◌}
+use Rattle.std.proofs.lemmas.Bool.{or_parts}
 use Rattle.std.proofs.lemmas.Bool.Decides.{nat_tests}
+use Rattle.std.proofs.lemmas.List.{map-append}
 use Rattle.std.proofs.lemmas.List.Sums.{sum_by-append}
+use Rattle.std.specs.List.{list_any}
 use Rattle.std.specs.Option.{option_map}
 use Rattle.std.specs.Prelude.{count_by}
 use Rattle.ap_defs.specs.declared.faults.SyntaxFault.{SyntaxFault}
 use Rattle.ap_defs.specs.declared.faults.SyntaxKind.TheVariants as kinds
 use Rattle.ap_lexer.specs.declared.token.Token.{Token}
 use Rattle.ap_lexer.specs.Tokens.{Lexeme, lexeme, lexemes, is_dot, item_front, after_item}
-use Rattle.ap_trees.specs.Symbols.{Sym, syms_of}
+use Rattle.ap_lexer.proofs.Fronts.{goes_on, ends, no_end}
+use Rattle.ap_trees.specs.Symbols.{Sym, sym_of, syms, syms_of}
 use Rattle.ap_trees.specs.Items.{Saying, ItemOf}
 use Rattle.ap_syntax.specs.declared.faults.SynError.{SynError}
 use Rattle.ap_syntax.specs.declared.faults.SynError.TheVariants as errors
 use Rattle.ap_syntax.specs.ItemGrammar.{IsItem}
 use Rattle.ap_syntax.specs.ItemReader.{read_item}
+use Rattle.ap_syntax.specs.declared.front.Front.{Front}
+use Rattle.ap_syntax.specs.Fronts.{HasBefore, IsFrontOf}
 use Rattle.ap_syntax.specs.Nesting.{is_too_deep}
 use Rattle.ap_syntax.specs.Reading.{first_dot, before, fault, First, unended, too_deep, no_item, an_item, FirstOf, form_or_fault, item_or_fault, GivesOneOf}
 use Rattle.ap_syntax.proofs.ItemLaws.{item_sound, item_only}
@@ -31,26 +37,6 @@ dot_next t ts = by (is_dot t) refl
     by : (b : Bool) → is_dot t ≡ b → first_dot (t ∷ ts) ≡ cond b (Some 0) (option_map suc (first_dot ts))
     by true e = let h : nat_lt 0 (suc (length ts)) ≡ true = grind (arith, nat_tests) in rw (e, h) refl
     by false e = rw e (one_later _ _)
-
-front_dot : (ts : List Lexeme) → first_dot (item_front ts) ≡ first_dot ts
-front_dot [] = refl
-front_dot (t ∷ ts) = by (is_dot t) refl (front_dot ts)
-  where
-    by : (b : Bool) → is_dot t ≡ b → first_dot (item_front ts) ≡ first_dot ts → first_dot (t ∷ (if b then [] else item_front ts)) ≡ first_dot (t ∷ ts)
-    by true e rest =
-        dot_next t [] ∙ ap (λ b. cond b (Some 0) (option_map suc (first_dot []))) e
-        ∙ sym (dot_next t ts ∙ ap (λ b. cond b (Some 0) (option_map suc (first_dot ts))) e)
-    by false e rest = dot_next t (item_front ts) ∙ ap (λ r. cond (is_dot t) (Some 0) (option_map suc r)) rest ∙ sym (dot_next t ts)
-
-front_take : (ts : List Lexeme) (place : ℕ) → first_dot ts ≡ Some place → take place (item_front ts) ≡ take place ts
-front_take [] place e = refl
-front_take (t ∷ ts) place e = by (is_dot t) (first_dot ts) refl (front_take ts) place (sym (dot_next t ts) ∙ e)
-  where
-    by : (b : Bool) (r : Option ℕ) → first_dot ts ≡ r → ((i : ℕ) → first_dot ts ≡ Some i → take i (item_front ts) ≡ take i ts) → (place : ℕ) → cond b (Some 0) (option_map suc r) ≡ Some place
-        → take place (t ∷ (if b then [] else item_front ts)) ≡ take place (t ∷ ts)
-    by true r k rest place h = let none : 0 ≡ place = cc in subst (λ n. take n (t ∷ []) ≡ take n (t ∷ ts)) none refl
-    by false None k rest place h = absurd (cc)
-    by false (Some i) k rest place h = let one : suc i ≡ place = cc in subst (λ n. take n (t ∷ item_front ts) ≡ take n (t ∷ ts)) one (ap (λ us. t ∷ us) (rest i k))
 
 front_rest : (ts : List Lexeme) (place : ℕ) → first_dot ts ≡ Some place → drop (place + 1) ts ≡ after_item ts
 front_rest [] place e = absurd (cc e)
@@ -93,52 +79,44 @@ first_given view given i [] d place symbols some dot same h = absurd (omega (ari
 first_given view given i (t ∷ ts) d place symbols some dot same h =
     gives_first view given i (lexeme t) (lexemes ts) place dot (subst (λ us. GivesOneOf view given (λ r. r ≡ item_or_fault i t.line us)) same h)
 
-same_head : (t : Token) (ts : List Token) (u : Lexeme) (us : List Lexeme) → lexemes (t ∷ ts) ≡ item_front (u ∷ us) → lexeme t ≡ u
-same_head t ts u us e = ap (λ (ls : List Lexeme). get_or ls 0 u) e
+-- an item that no `.` ends
+pub front_unended : (i : ℕ) (f : Front) (all : List Lexeme) → IsFrontOf all f → f.ended ≡ false
+    → FirstOf i all (Err (record { place = record { item = i; line = f.line }; kind = kinds.Unended }))
+front_unended i f [] h e = absurd h
+front_unended i f (t ∷ ts) h e =
+    let none : HasBefore (t ∷ ts) false (syms f.symbols.items) = subst (λ b. HasBefore (t ∷ ts) b (syms f.symbols.items)) e h.1 in
+    subst (λ n. First i t ts (Err (record { place = record { item = i; line = n }; kind = kinds.Unended }))) (sym h.0) (unended none.0)
 
-none_front : {P : Type 0} (tokens : List Token) → 0 < length tokens → lexemes tokens ≡ [] → P
-none_front [] some e = absurd (omega (arith, some))
-none_front (t ∷ ts) some e = absurd (cc e)
+-- one that a `.` ends
+pub front_given : {X : Type 0} (view : X → ItemOf) (given : Result X SynError) (i : ℕ) (f : Front) (all : List Lexeme) → IsFrontOf all f → f.ended ≡ true
+    → GivesOneOf view given (λ r. r ≡ item_or_fault i f.line (syms f.symbols.items)) → GivesOneOf (λ x. (view x, after_item all)) given (FirstOf i all)
+front_given view given i f [] h e g = absurd h
+front_given view given i f (t ∷ ts) h e g =
+    let some : HasBefore (t ∷ ts) true (syms f.symbols.items) = subst (λ b. HasBefore (t ∷ ts) b (syms f.symbols.items)) e h.1 in
+    let line : f.line ≡ t.line = h.0 in
+    let place = some.0 in
+    let same : syms f.symbols.items ≡ before place (t ∷ ts) = some.2 in
+    let both : item_or_fault i f.line (syms f.symbols.items) ≡ item_or_fault i t.line (before place (t ∷ ts)) = λ j. item_or_fault i (line j) (same j) in
+    subst (λ rest. GivesOneOf (λ x. (view x, rest)) given (First i t ts)) (front_rest (t ∷ ts) place some.1)
+    (gives_first view given i t ts place some.1 (subst (λ o. GivesOneOf view given (λ r. r ≡ o)) both g))
 
--- what is read of the first item's tokens
-pub front_unended : (i : ℕ) (tokens : List Token) (d : Token) (all : List Lexeme) → 0 < length tokens → lexemes tokens ≡ item_front all → first_dot (lexemes tokens) ≡ None
-    → FirstOf i all (Err (fault i (lexeme (get_or tokens 0 d)) kinds.Unended))
-front_unended i tokens d [] some e none = none_front tokens some e
-front_unended i [] d (u ∷ us) some e none = absurd (omega (arith, some))
-front_unended i (t ∷ ts) d (u ∷ us) some e none =
-    let dot : first_dot (u ∷ us) ≡ None = sym (front_dot (u ∷ us)) ∙ ap first_dot (sym e) ∙ none in
-    subst (λ x. First i u us (Err (fault i x kinds.Unended))) (sym (same_head t ts u us e)) (unended dot)
+counted : (t : Lexeme) (us : List Lexeme) → count_by is_dot (t ∷ us) ≡ count_by is_dot (t ∷ []) + count_by is_dot us
+counted t us = sum_by-append _ (t ∷ []) us
 
-pub front_given : {X : Type 0} (view : X → ItemOf) (given : Result X SynError) (i : ℕ) (tokens : List Token) (d : Token) (all : List Lexeme) (place : ℕ) (symbols : List Sym) → 0 < length tokens
-    → lexemes tokens ≡ item_front all → first_dot (lexemes tokens) ≡ Some place → symbols ≡ before place (lexemes tokens)
-    → GivesOneOf view given (λ r. r ≡ item_or_fault i (get_or tokens 0 d).line symbols) → GivesOneOf (λ x. (view x, after_item all)) given (FirstOf i all)
-front_given view given i tokens d [] place symbols some e dot same h = none_front tokens some e
-front_given view given i [] d (u ∷ us) place symbols some e dot same h = absurd (omega (arith, some))
-front_given view given i (t ∷ ts) d (u ∷ us) place symbols some e dot same h =
-    let here : first_dot (u ∷ us) ≡ Some place = sym (front_dot (u ∷ us)) ∙ ap first_dot (sym e) ∙ dot in
-    let all : symbols ≡ before place (u ∷ us) = same ∙ ap (before place) e ∙ ap syms_of (front_take (u ∷ us) place here) in
-    let line : (lexeme t).line ≡ u.line = ap (λ (x : Lexeme). x.line) (same_head t ts u us e) in
-    let both : item_or_fault i t.line symbols ≡ item_or_fault i u.line (before place (u ∷ us)) = λ j. item_or_fault i (line j) (all j) in
-    subst (λ rest. GivesOneOf (λ x. (view x, rest)) given (First i u us)) (front_rest (u ∷ us) place here)
-    (gives_first view given i u us place here (subst (λ o. GivesOneOf view given (λ r. r ≡ o)) both h))
+single : (t : Lexeme) (b : Bool) → is_dot t ≡ b → count_by is_dot (t ∷ []) ≡ cond b 1 0
+single t true e = ap (λ b. 0 + cond b 1 0) e
+single t false e = ap (λ b. 0 + cond b 1 0) e
 
 -- a `.` ends the first item, and no other token of it is one
 one_dot : (ts : List Lexeme) (place : ℕ) → first_dot ts ≡ Some place → count_by is_dot (item_front ts) ≡ 1
 one_dot [] place e = absurd (cc e)
 one_dot (t ∷ ts) place e = by (is_dot t) refl (first_dot ts) refl (one_dot ts) (sym (dot_next t ts) ∙ e)
   where
-    counted : (us : List Lexeme) → count_by is_dot (t ∷ us) ≡ count_by is_dot (t ∷ []) + count_by is_dot us
-    counted us = sum_by-append _ (t ∷ []) us
-
-    single : (b : Bool) → is_dot t ≡ b → count_by is_dot (t ∷ []) ≡ cond b 1 0
-    single true e = ap (λ b. 0 + cond b 1 0) e
-    single false e = ap (λ b. 0 + cond b 1 0) e
-
     by : (b : Bool) → is_dot t ≡ b → (r : Option ℕ) → first_dot ts ≡ r → ((i : ℕ) → first_dot ts ≡ Some i → count_by is_dot (item_front ts) ≡ 1) → cond b (Some 0) (option_map suc r) ≡ Some place
         → count_by is_dot (t ∷ (if b then [] else item_front ts)) ≡ 1
-    by true e r k rest h = single true e
+    by true e r k rest h = single t true e
     by false e None k rest h = absurd (cc)
-    by false e (Some i) k rest h = let more : count_by is_dot (t ∷ item_front ts) ≡ 1 = omega (arith, counted (item_front ts), single false e, rest i k) in more
+    by false e (Some i) k rest h = let more : count_by is_dot (t ∷ item_front ts) ≡ 1 = omega (arith, counted t (item_front ts), single t false e, rest i k) in more
 
 first_dots : (n : ℕ) (t : Lexeme) (ts : List Lexeme) (o : Result (ItemOf × List Lexeme) SyntaxFault) (x : ItemOf) (rest : List Lexeme) → First n t ts o → o ≡ Ok (x, rest) → count_by is_dot (item_front (t ∷ ts)) ≡ 1
 first_dots n t ts _ x rest (unended h) e = absurd (cc)
@@ -149,3 +127,78 @@ first_dots n t ts _ x rest (an_item place form h k i) e = one_dot (t ∷ ts) pla
 pub one_ends : (n : ℕ) (ts : List Lexeme) (x : ItemOf) (rest : List Lexeme) → FirstOf n ts (Ok (x, rest)) → count_by is_dot (item_front ts) ≡ 1
 one_ends n [] x rest h = absurd h
 one_ends n (t ∷ ts) x rest h = first_dots n t ts (Ok (x, rest)) x rest h refl
+
+no_dot : (ts : List Lexeme) → first_dot ts ≡ None → count_by is_dot (item_front ts) ≡ 0
+no_dot [] e = refl
+no_dot (t ∷ ts) e = by (is_dot t) refl (first_dot ts) refl (no_dot ts) (sym (dot_next t ts) ∙ e)
+  where
+    by : (b : Bool) → is_dot t ≡ b → (r : Option ℕ) → first_dot ts ≡ r → (first_dot ts ≡ None → count_by is_dot (item_front ts) ≡ 0) → cond b (Some 0) (option_map suc r) ≡ None
+        → count_by is_dot (t ∷ (if b then [] else item_front ts)) ≡ 0
+    by true e r k rest h = absurd (cc)
+    by false e None k rest h = let more : count_by is_dot (t ∷ item_front ts) ≡ 0 = omega (arith, counted t (item_front ts), single t false e, rest k) in more
+    by false e (Some i) k rest h = absurd (cc)
+
+-- how many `.` the first item has
+pub front_dots : (f : Front) (all : List Lexeme) → IsFrontOf all f → count_by is_dot (item_front all) ≡ cond f.ended 1 0
+front_dots f [] h = absurd h
+front_dots f (t ∷ ts) h = by f.ended h.1
+  where
+    by : (b : Bool) → HasBefore (t ∷ ts) b (syms f.symbols.items) → count_by is_dot (item_front (t ∷ ts)) ≡ cond b 1 0
+    by true k = one_dot (t ∷ ts) k.0 k.1
+    by false k = no_dot (t ∷ ts) k.0
+
+pub front_some : (f : Front) (all : List Lexeme) → IsFrontOf all f → 0 < length all
+front_some f [] h = absurd h
+front_some f (t ∷ ts) h = omega arith
+
+-- The symbols of the tokens before those that are left, none of them a `.`.
+pub record ReadTo (all left : List Lexeme) (symbols : List Sym) : Type 0 where
+  pub tokens : List Lexeme
+  pub parts : all ≡ tokens ++ left
+  pub undotted : list_any is_dot tokens ≡ false
+  pub same : symbols ≡ syms_of tokens
+
+pub read_none : (all : List Lexeme) → ReadTo all all []
+read_none all = record { tokens = []; parts = refl; undotted = refl; same = refl }
+
+-- one more token
+pub read_on : (all us : List Lexeme) (t : Lexeme) (symbols more : List Sym) → ReadTo all (t ∷ us) symbols → is_dot t ≡ false → more ≡ symbols ++ sym_of t ∷ [] → ReadTo all us more
+read_on all us t symbols more r other e =
+    let on = goes_on all r.tokens (t ∷ us) us t r.parts refl r.undotted other in
+    record {
+      tokens = r.tokens ++ t ∷ [];
+      parts = on.0;
+      undotted = on.1;
+      same = e ∙ ap (λ ss. ss ++ sym_of t ∷ []) r.same ∙ sym (map-append sym_of r.tokens (t ∷ []));
+    }
+
+dot_behind : (xs : List Lexeme) (t : Lexeme) (us : List Lexeme) → list_any is_dot xs ≡ false → is_dot t ≡ true → first_dot (xs ++ t ∷ us) ≡ Some (length xs)
+dot_behind [] t us none e = dot_next t us ∙ ap (λ b. cond b (Some 0) (option_map suc (first_dot us))) e
+dot_behind (x ∷ xs) t us none e =
+    let both = or_parts (is_dot x) (list_any is_dot xs) none in
+    dot_next x (xs ++ t ∷ us) ∙ ap (λ b. cond b (Some 0) (option_map suc (first_dot (xs ++ t ∷ us)))) both.0
+    ∙ ap (option_map suc) (dot_behind xs t us both.1 e)
+
+never_dot : (xs : List Lexeme) → list_any is_dot xs ≡ false → first_dot xs ≡ None
+never_dot [] none = refl
+never_dot (x ∷ xs) none =
+    let both = or_parts (is_dot x) (list_any is_dot xs) none in
+    dot_next x xs ∙ ap (λ b. cond b (Some 0) (option_map suc (first_dot xs))) both.0 ∙ ap (option_map suc) (never_dot xs both.1)
+
+take_front : (xs ys : List Lexeme) → take (length xs) (xs ++ ys) ≡ xs
+take_front [] ys = refl
+take_front (x ∷ xs) ys = ap (λ zs. x ∷ zs) (take_front xs ys)
+
+-- the `.` has come
+pub read_dot : (all us : List Lexeme) (t : Lexeme) (symbols : List Sym) → ReadTo all (t ∷ us) symbols → is_dot t ≡ true → HasBefore all true symbols × (us ≡ after_item all)
+read_dot all us t symbols r dot =
+    let place : first_dot all ≡ Some (length r.tokens) = ap first_dot r.parts ∙ dot_behind r.tokens t us r.undotted dot in
+    let front : syms_of r.tokens ≡ before (length r.tokens) all =
+    ap syms_of (sym (take_front r.tokens (t ∷ us))) ∙ ap (before (length r.tokens)) (sym r.parts) in
+    ((length r.tokens, place, r.same ∙ front), (ends all r.tokens (t ∷ us) us t r.parts refl r.undotted dot).1)
+
+-- no `.` comes
+pub read_all : (all : List Lexeme) (symbols : List Sym) → ReadTo all [] symbols → HasBefore all false symbols × ([] ≡ after_item all)
+read_all all symbols r =
+    let whole : all ≡ r.tokens = r.parts ∙ append-nil r.tokens in
+    ((ap first_dot whole ∙ never_dot r.tokens r.undotted, r.same ∙ ap syms_of (sym whole)), (no_end all r.tokens [] r.parts refl r.undotted).1)

@@ -7,3 +7,4 @@ pub mod ItemGrammar
 pub mod ItemReader
 pub mod Nesting
 pub mod Reading
+pub mod Fronts

@@ -6,6 +6,7 @@
 
 mod faults;
 mod flat;
+mod front;
 mod goals;
 mod items;
 mod joining;
@@ -15,4 +16,5 @@ mod nesting;
 mod reading;
 
 pub use faults::SynError;
-pub use reading::{item_of_tokens, parse};
+pub use front::{Front, item_of_front, next_front};
+pub use reading::parse;

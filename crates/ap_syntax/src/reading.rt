@@ -1,7 +1,7 @@
 // The items of tokens, one after another.
-ghost use Rattle.std.specs.Prelude.{◌≡◌, ◌<◌, ◌≤◌, ◌+◌, List, IfOk, IfSome, length, drop};
+ghost use Rattle.std.specs.Prelude.{◌≡◌, ◌<◌, ◌≤◌, IfOk, IfSome, length, drop};
 ghost use Rattle.ap_defs.specs.Limits.{size_limit};
-ghost use Rattle.ap_lexer.specs.Tokens.{Lexeme, lexeme, lexemes, is_dot, item_front, after_item};
+ghost use Rattle.ap_lexer.specs.Tokens.{lexemes};
 ghost use Rattle.ap_trees.specs.Symbols.{syms};
 ghost use Rattle.ap_trees.specs.Trees.{item_of, items_of_text};
 ghost use Rattle.ap_syntax.specs.Reading.{GivesOneOf, Reads, FirstOf, first_dot};
@@ -49,7 +49,7 @@ fn symbols_before<'a>(
 }
 
 /// The fault of an item.
-fn fault(item: u32, line: u64, kind: SyntaxKind) -> SynError
+pub fn fault(item: u32, line: u64, kind: SyntaxKind) -> SynError
     ensures { result
         ≡ SynError.Fault (record { place = record { item = item; line = line }; kind = kind }) }
 {
@@ -58,7 +58,7 @@ fn fault(item: u32, line: u64, kind: SyntaxKind) -> SynError
 }
 
 /// The item whose symbols before its `.` are these.
-fn form_item<'a>(
+pub fn form_item<'a>(
     alloc: Global,
     item: u32,
     line: u64,
@@ -97,27 +97,6 @@ fn first_item<'a>(
         Ok(item) => Ok((item, place + 1)),
         Err(error) => Err(error),
     }
-}
-
-/// The item of a number, of which these are all tokens with its `.`, or its fault.
-///
-/// The tokens are let go before it is read.
-pub fn item_of_tokens<'a>(
-    alloc: Global,
-    number: u32,
-    tokens: Vec<Token<'a>>,
-) -> Result<Item<'a>, SynError>
-    requires { 0 < length tokens.items }
-    ensures { (all : List Lexeme) → lexemes tokens.entry.items ≡ item_front all →
-        GivesOneOf (λ i. (item_of i, after_item all)) result (FirstOf number all) }
-{
-    let line = tokens[0].line;
-    let Some(place) = dot_place(&tokens) else {
-        return Err(fault(number, line, SyntaxKind::Unended));
-    };
-    let symbols = symbols_before(alloc, &tokens, place)?;
-    drop(tokens);
-    form_item(alloc, number, line, &symbols)
 }
 
 /// The items of tokens, or the first fault.

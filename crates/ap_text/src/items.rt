@@ -1,17 +1,18 @@
-// The items of a text, each read and typed before the tokens of the next are made.
-ghost use Rattle.std.specs.Prelude.{◌≡◌, ◌≤◌, ◌<◌, ◌+◌, ◌++◌, ◌∷◌, true, false, List, [], IfOk, OnOk, length, count_by};
+// The items of a text, each read and typed before the symbols of the next are made.
+ghost use Rattle.std.specs.Prelude.{◌≡◌, ◌≤◌, ◌+◌, ◌++◌, ◌∷◌, List, [], IfOk, OnOk, length, count_by};
 ghost use Rattle.ap_defs.specs.Limits.{size_limit};
 ghost use Rattle.ap_lexer.specs.Cursors.{HasStopped, lexemes_left};
-ghost use Rattle.ap_lexer.specs.Tokens.{Lexeme, lexemes, is_dot, item_front, after_item, item_after};
+ghost use Rattle.ap_lexer.specs.Tokens.{Lexeme, is_dot, item_front, after_item, item_after};
 ghost use Rattle.ap_trees.specs.Items.{ItemOf};
 ghost use Rattle.ap_trees.specs.Trees.{item_of};
+ghost use Rattle.ap_syntax.specs.Fronts.{IsFrontOf};
 ghost use Rattle.ap_typecheck.specs.Typings.{IsTypingOf};
 ghost use Rattle.ap_text.specs.Outlooks.{HasTyped, IsOutlook};
 
 use crate::outlook::Outlook;
 use ap_defs::memory::Memory;
-use ap_lexer::{Cursor, Token, count_dots, item_tokens};
-use ap_syntax::{SynError, item_of_tokens};
+use ap_lexer::Cursor;
+use ap_syntax::{Front, SynError, item_of_front, next_front};
 use ap_trees::Item;
 use ap_typecheck::{TypeError, Typing};
 use std::alloc::Global;
@@ -47,38 +48,28 @@ fn with_item<'a>(
     }
 }
 
-/// What is known of a text's items with the next one, of which these are the tokens.
-fn with_tokens<'a>(
+/// What is known of a text's items with the next one, of which these are the symbols.
+fn with_front<'a>(
     alloc: Global,
     typing: &mut Typing<'a>,
     outlook: Outlook,
     number: u32,
-    tokens: Vec<Token<'a>>,
+    front: Front<'a>,
 ) -> Result<Outlook, Memory>
-    requires some { 0 < length tokens.items }
-    requires outlook { (all left : List Lexeme) × (lexemes tokens.items ≡ item_front left)
+    requires { (all left : List Lexeme) × IsFrontOf left front
         × (number ≤ size_limit + 1) × IsOutlook all left number typing.old outlook }
-    ensures { IfOk result (λ o. (all left : List Lexeme) →
-        lexemes tokens.entry.items ≡ item_front left →
+    ensures { IfOk result (λ o. (all left : List Lexeme) → IsFrontOf left front.entry →
         IsOutlook all left number typing.old outlook → IsOutlook all (after_item left)
-        (number + count_by is_dot (lexemes tokens.entry.items)) typing.new o) }
+        (number + count_by is_dot (item_front left)) typing.new o) }
 {
     if let Outlook::Ungrammatical(fault) = outlook {
         return Ok(Outlook::Ungrammatical(fault));
     }
-    match item_of_tokens(alloc, number, tokens) {
+    match item_of_front(alloc, number, front) {
         Ok(item) => with_item(alloc, typing, outlook, item),
         Err(SynError::Fault(fault)) => Ok(Outlook::Ungrammatical(fault)),
         Err(SynError::Memory) => Err(Memory),
     }
-}
-
-/// Whether there are no tokens.
-fn are_none(tokens: &[Token<'_>]) -> bool
-    ensures none { result ≡ true → tokens.now ≡ [] }
-    ensures some { result ≡ false → 0 < length tokens.now }
-{
-    tokens.is_empty()
 }
 
 /// What is known of all items of a text, and the number of the item that its end would be in.
@@ -106,12 +97,11 @@ pub fn read_items<'a>(
     let mut outlook = Outlook::Typed;
     let mut next = 1;
     'reading: loop {
-        let tokens = item_tokens(alloc, cursor)?;
-        if are_none(&tokens) {
+        let Some(front) = next_front(alloc, cursor)? else {
             return Ok(Items { outlook, next });
-        }
-        let dots = count_dots(&tokens) as u32;
-        outlook = with_tokens(alloc, typing, outlook, next, tokens)?;
+        };
+        let dots = front.dots();
+        outlook = with_front(alloc, typing, outlook, next, front)?;
         next += dots;
     }
 }

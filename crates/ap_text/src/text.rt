@@ -62,7 +62,7 @@ fn typed_program(alloc: Global, text: &[u8]) -> Result<Program<Raw>, TextError>
 /// item's grammar, else of an item's types, else of an item's names. `Memory` is want of memory.
 ///
 /// The text is read item by item: beside what the items before it make stands at most one item, as its
-/// tokens, then as its symbols, then as its tree.
+/// symbols, then as its tree.
 pub fn program_of_text(alloc: Global, text: &[u8]) -> Result<Restricted, TextError>
     requires { length text.now ≤ size_limit }
     ensures program { IfOk result (λ r. IsProgramOfText text.now (program_of r)) }

@@ -17,7 +17,7 @@ mod types;
 pub use building::applied;
 pub use cursor::{after_bar, after_close, after_close_list, after_comma, after_lambda, after_open};
 pub use outcome::ReadError;
-pub use symbols::{Symbol, symbols_of};
+pub use symbols::{Symbol, symbol_of, symbols_of};
 pub use terms::{term, term_list, whole_term};
 pub use trees::{Application, Args, Binder, Form, GoalTree, Item, Sides, Tree, TypeTree};
 pub use types::{type_list, type_tree, whole_type};
