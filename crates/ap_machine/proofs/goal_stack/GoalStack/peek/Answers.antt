@@ -9,6 +9,8 @@ returns-then-self-eq0-clause-none c = waiting_none c.args.self.now.cells.items c
 
 pub returns-else-self-eq0-clause-first : goal.returns-else-self-eq0-clause-first
 returns-else-self-eq0-clause-first c =
-    let a = c.args.self.now in
-    (waiting_at a.cells.items c.index.result.now.next, waiting_first a.cells.items c.index.result.now a.first c.if-self-eq0.false a.within c.index.ensures a.linked
-        ∙ ap (λ f. waiting_of f ∷ waiting_at a.cells.items c.index.result.now.next) (sym c.frame_of.ensures))
+    let a = c.args.self.now in (
+      waiting_at a.cells.items c.index.result.now.next,
+      waiting_first a.cells.items c.index.result.now a.first c.if-self-eq0.false a.within c.index.ensures a.linked
+          ∙ ap (λ f. waiting_of f ∷ waiting_at a.cells.items c.index.result.now.next) (sym c.frame_of.ensures),
+    )

@@ -17,4 +17,4 @@ pub returns-clause-first : goal.returns-clause-first
 returns-clause-first c =
     let a = c.args.self.now in
     waiting_first a.cells.items c.index-cell.result.now a.first c.if-self-eq0.false a.within c.index-cell.ensures a.linked
-        ∙ ap (λ f. waiting_of f ∷ waiting_at a.cells.items c.index-cell.result.now.next) (sym c.frame_of-frame.ensures)
+    ∙ ap (λ f. waiting_of f ∷ waiting_at a.cells.items c.index-cell.result.now.next) (sym c.frame_of-frame.ensures)
