@@ -3,8 +3,11 @@
 ghost use Rattle.std.specs.Prelude.{◌≡◌, ◌<◌, ◌∷◌, [], ◌++◌, false, true, IfOk, OnOk, map};
 ghost use Rattle.ap_defs.specs.Renaming.{IsBelow};
 ghost use Rattle.ap_defs.specs.Substitution.{occurs, under, ◌#◌};
+ghost use Rattle.ap_defs.specs.Terms.{susp};
+ghost use Rattle.ap_defs.specs.declared.terms.Var.{Var as variable};
 ghost use Rattle.ap_defs.specs.Unification.{apply_rule, bind, fresh_for, next, rule, step};
 ghost use Rattle.ap_perm.specs.Closures.{closure_term};
+ghost use Rattle.ap_store.specs.Likes.{HaveSameVars};
 ghost use Rattle.ap_store.specs.Marks.{HasNoVars};
 ghost use Rattle.ap_store.specs.Triples.{IsPrefixOf, with_binding};
 ghost use Rattle.ap_store.specs.Views.{bindings_of, kinds, meaning_in, present, versions};
@@ -19,6 +22,7 @@ use ap_defs::terms::{Cond, Name, Var};
 use ap_perm::closures::Closure;
 use ap_rules::moves::{Move, rule_for};
 use ap_rules::pairs::{ClosurePair, FreshFor, Work};
+use ap_store::occurrences::Occurrence;
 use ap_store::store::Store;
 use std::alloc::Global;
 
@@ -115,21 +119,25 @@ pub fn bind_var<'a>(
     Ok(())
 }
 
-/// Binds a variable to a part, and takes the conditions on it out of the store.
+/// Binds a variable to a part, with what was found of the variables there, and takes the conditions on it out of
+/// the store.
 pub fn bind_plain<'a>(
     alloc: Global,
     store: &mut Store<'a>,
     work: &mut Work<'a>,
     x: Var,
     p: Plain<'a>,
-    is_ground: bool,
+    found: Occurrence,
 ) -> Result<(), Memory>
     requires made { x.num < (present store.old).next }
     requires unbound { IsUnbound (bindings_of store.old) x }
     requires below { IsBelow (present store.old).next (plain_term p) }
     requires absent { occurs x (under (bindings_of store.old) (plain_term p)) ≡ false }
-    requires no_vars { is_ground ≡ true →
+    requires no_vars { found ≡ Occurrence.Ground →
         HasNoVars (under (bindings_of store.old) (plain_term p)) }
+    requires like { (w : variable) → found ≡ Occurrence.Like w → HaveSameVars
+        (under (bindings_of store.old) (plain_term p))
+        (under (bindings_of store.old) (susp [] w)) }
     ensures bindings { OnOk result (bindings_of store.new ≡ (with_binding x
         (under (bindings_of store.old) (plain_term p.entry)) (present store.old)).bindings) }
     ensures equations { work.new.equations.items ≡ work.old.equations.items }
@@ -139,9 +147,9 @@ pub fn bind_plain<'a>(
     ensures kinds { kinds store.new ≡ kinds store.old }
 {
     if store.has_conditions(x) {
-        return bind_var(alloc, store, work, x, p.closure(alloc), is_ground);
+        return bind_var(alloc, store, work, x, p.closure(alloc), found.is_ground());
     }
-    store.bind_free(x, p.base, p.end, p.term, is_ground)
+    store.bind_free(x, p.base, p.end, p.term, found)
 }
 
 /// What a rule made of the first equation is carried out. It answers false where that is no

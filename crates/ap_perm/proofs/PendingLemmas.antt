@@ -1,17 +1,19 @@
 -- What is left on a stack of problems, of which the last is taken first.
-use Rattle.std.proofs.Common.{◌≡◌, ◌<◌, ℕ, ◌+◌, List, [], ◌∷◌, ◌++◌, refl, sym, ap, ◌∙◌, append_assoc, arith}
+use Rattle.std.proofs.Common.{◌≡◌, ◌<◌, ◌≤◌, ℕ, ◌+◌, List, [], ◌∷◌, ◌++◌, refl, sym, ap, ap₂, ◌∙◌, append_assoc, arith}
 use Rattle.std.proofs.lemmas.List.{append-nil}
 use Rattle.std.specs.Prelude.{None, Option, Some}
 use Rattle.ap_defs.specs.Freshness.{Conds, both}
 use Rattle.ap_defs.specs.Terms.{NominalTerm}
 use Rattle.ap_defs.specs.declared.terms.Cond.{Cond}
+use Rattle.ap_defs.specs.declared.terms.Name.{Name}
 use Rattle.ap_defs.specs.declared.terms.Var.{Var}
 use Rattle.ap_perm.specs.Lookups.{Bound, IsRanked}
+use Rattle.ap_perm.specs.Inner.{inner_part}
 use Rattle.ap_perm.specs.Reduction.{added, pending_term}
 use Rattle.ap_perm.specs.declared.pending.Pending.{Pending}
 use Rattle.ap_perm.proofs.SetLemmas.{behind-append}
-use Rattle.ap_perm.proofs.StepLemmas.{problem}
-use Rattle.ap_perm.proofs.VisitLemmas.{visits}
+use Rattle.ap_perm.proofs.StepLemmas.{inner_problem, problem}
+use Rattle.ap_perm.proofs.VisitLemmas.{visits, visits_inner}
 
 both_assoc : (x y z : Option (List Cond)) → both (both x y) z ≡ both x (both y z)
 both_assoc None y z = refl
@@ -82,6 +84,16 @@ module _ (bound : Bound) (rank : Var → ℕ) (ranked : IsRanked bound rank) whe
   -- one problem in the place of the last
   pub one_added : (p w : Pending) (ds : Conds) → problem_of p ≡ problem_of w → added (all_left (w ∷ [])) ds ≡ added (problem_of p) ds
   one_added p w ds e = ap (λ x. added x ds) (all_one w ∙ sym e)
+
+  -- a problem of what stands in a part below symbols and other binders
+  pub inner_of : (w : Pending) (a : Name) (t : NominalTerm) → w.name ≡ a → pending_term w ≡ inner_part a t → problem bound rank ranked a t ≡ problem_of w
+  inner_of w a t e f = sym (ap₂ (problem bound rank ranked) e f ∙ inner_problem bound rank ranked a t)
+
+  pub inner_visits : (w : Pending) (a : Name) (t : NominalTerm) → pending_term w ≡ inner_part a t → visits bound rank (pending_term w) ≤ visits bound rank t
+  inner_visits w a t f =
+      let h = visits_inner bound rank ranked a t in
+      let k : visits bound rank (pending_term w) ≡ visits bound rank (inner_part a t) = ap (visits bound rank) f in
+      omega (arith, h, k)
 
   pub two_added : (p v w : Pending) (ds : Conds) → problem_of p ≡ both (problem_of v) (problem_of w) → added (all_left (v ∷ w ∷ [])) ds ≡ added (problem_of p) ds
   two_added p v w ds e = ap (λ x. added (both (problem_of v) x) ds) (all_one w) ∙ ap (λ x. added x ds) (sym e)

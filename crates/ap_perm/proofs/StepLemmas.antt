@@ -1,6 +1,6 @@
 -- What a freshness problem reduces to, for each kind of term.
-use Rattle.std.proofs.Common.{◌≡◌, ℕ, true, false, List, [], ◌∷◌, refl, ap, ◌∙◌}
-use Rattle.std.specs.Prelude.{Option, Some, None, Result, Ok, Err, OnOk}
+use Rattle.std.proofs.Common.{◌≡◌, ℕ, true, false, List, [], ◌∷◌, refl, sym, ap, ◌∙◌}
+use Rattle.std.specs.Prelude.{Option, Some, None, Result, Ok, Err, OnOk, if◌then◌else◌}
 use Rattle.ap_defs.specs.Freshness.{Conds, both, reduce}
 use Rattle.ap_defs.specs.Permutations.{act_name, inverse, name_eq}
 use Rattle.ap_defs.specs.Terms.{NominalTerm, abs, act_term, app, name, pair, susp, unit}
@@ -8,6 +8,7 @@ use Rattle.ap_defs.specs.declared.terms.Cond.{Cond}
 use Rattle.ap_defs.specs.declared.terms.Name.{Name}
 use Rattle.ap_defs.specs.declared.terms.Swap.{Swap}
 use Rattle.ap_defs.specs.declared.terms.Var.{Var}
+use Rattle.ap_perm.specs.Inner.{inner_part}
 use Rattle.ap_perm.specs.Reduction.{added}
 use Rattle.ap_perm.proofs.LookupLemmas.{carried_out_abs, carried_out_act, carried_out_app, carried_out_bound, carried_out_name, carried_out_pair, carried_out_unbound, carried_out_unit}
 use Rattle.ap_perm.specs.Lookups.{Bound, IsRanked, carried_out}
@@ -59,3 +60,16 @@ module _ (bound : Bound) (rank : Var → ℕ) (ranked : IsRanked bound rank) whe
 
   pub var_problem : (a : Name) (x : Var) (t : NominalTerm) → bound x ≡ Some t → problem a (susp [] x) ≡ problem a t
   var_problem a x t h = ap (reduce a) (carried_out_bound bound rank ranked [] x t h ∙ act_term_none (carried_out bound rank t))
+
+  -- the problem of the part below symbols and other binders
+  pub inner_problem : (a : Name) (t : NominalTerm) → problem a (inner_part a t) ≡ problem a t
+  inner_problem a unit = refl
+  inner_problem a (name b) = refl
+  inner_problem a (pair t u) = refl
+  inner_problem a (app f t) = inner_problem a t ∙ sym (app_problem a f t (app f t) refl)
+  inner_problem a (abs b t) =
+      elim (name_eq a b) as (λ v. name_eq a b ≡ v → problem a (if v then abs b t else inner_part a t) ≡ problem a (abs b t)) [
+        | true ↦ λ e. refl
+        | false ↦ λ e. inner_problem a t ∙ sym (abs_problem a b t (abs b t) refl e)
+      ] refl
+  inner_problem a (susp q x) = refl

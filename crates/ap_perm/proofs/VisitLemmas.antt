@@ -1,13 +1,15 @@
 -- How many nodes are visited where bindings are followed: a measure.
-use Rattle.std.proofs.Common.{◌≡◌, ◌<◌, ◌≤◌, ℕ, zero, suc, ◌+◌, max, List, [], refl, ap, ◌∙◌, arith}
-use Rattle.std.specs.Prelude.{None, Option, Some}
-use Rattle.ap_defs.specs.Terms.{NominalTerm, abs, act_term, app, pair, susp}
+use Rattle.std.proofs.Common.{◌≡◌, ◌<◌, ◌≤◌, ℕ, zero, suc, true, false, ◌+◌, max, List, [], refl, ap, ◌∙◌, arith}
+use Rattle.std.specs.Prelude.{None, Option, Some, if◌then◌else◌}
+use Rattle.ap_defs.specs.Permutations.{name_eq}
+use Rattle.ap_defs.specs.Terms.{NominalTerm, abs, act_term, app, name, pair, susp, unit}
 use Rattle.ap_defs.specs.Unification.{size}
 use Rattle.ap_defs.specs.declared.terms.Name.{Name}
 use Rattle.ap_defs.specs.declared.terms.Swap.{Swap}
 use Rattle.ap_defs.specs.declared.terms.Var.{Var}
 use Rattle.ap_perm.proofs.LookupLemmas.{depth_act, depth_ranked, occurs_depth}
 use Rattle.ap_perm.specs.Lookups.{Bound, IsRanked, depth_of}
+use Rattle.ap_perm.specs.Inner.{inner_part}
 use Rattle.ap_theory.proofs.SubstitutionLemmas.{applied_act, applied_local}
 use Rattle.ap_theory.proofs.TermLemmas.{size_act_term, size_pos}
 use Rattle.ap_theory.specs.Substitutions.{Substitution, applied}
@@ -63,6 +65,18 @@ module _ (bound : Bound) (rank : Var → ℕ) (ranked : IsRanked bound rank) whe
 
   pub visits_abs : (a : Name) (t : NominalTerm) → visits bound rank (abs a t) ≡ 1 + visits bound rank t
   visits_abs a t = refl
+
+  pub visits_inner : (a : Name) (t : NominalTerm) → visits bound rank (inner_part a t) ≤ visits bound rank t
+  visits_inner a unit = omega arith
+  visits_inner a (name b) = omega arith
+  visits_inner a (pair t u) = omega arith
+  visits_inner a (app f t) = let h = visits_inner a t in let k = visits_app f t in omega (arith, h, k)
+  visits_inner a (abs b t) =
+      elim (name_eq a b) as (λ v. visits bound rank (if v then abs b t else inner_part a t) ≤ visits bound rank (abs b t)) [
+        | true ↦ omega arith
+        | false ↦ let h = visits_inner a t in let k = visits_abs b t in omega (arith, h, k)
+      ]
+  visits_inner a (susp q x) = omega arith
 
   pub visits_some : (t : NominalTerm) → 0 < visits bound rank t
   visits_some t = let h = size_pos (applied (unrolled bound (depth_of rank t)) t) in omega arith

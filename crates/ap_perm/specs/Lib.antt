@@ -6,5 +6,6 @@ pub mod Lookups
 pub mod StatementsOnLookups
 pub mod BelowProps
 pub mod Closures
+pub mod Inner
 pub mod Reduction
 pub mod Differing

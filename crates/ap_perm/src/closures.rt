@@ -1,7 +1,9 @@
 //! Closures: terms of a program or a query that are shared instead of copied (Boyer and Moore, "The
 //! sharing of structure in theorem-proving programs").
 
-ghost use Rattle.ap_defs.specs.Renaming.{IsBelow, rename_term};
+ghost use Rattle.std.specs.Prelude.{◌≡◌, ◌+◌, ◌<◌, ◌^◌, IfSome};
+ghost use Rattle.ap_defs.specs.Permutations.{act_name};
+ghost use Rattle.ap_defs.specs.Renaming.{IsBelow, rename_name, rename_term};
 ghost use Rattle.ap_defs.specs.Terms.{term_of};
 ghost use Rattle.ap_perm.specs.BelowProps.{below_prop};
 
@@ -42,6 +44,23 @@ pub enum Opened<'a> {
     App(u32, Closure<'a>),
     Abs(Name, Closure<'a>),
     Susp(Vec<Swap>, Var),
+}
+
+/// From where a name has to be numbered to be what swappings make of it, or none where its number is less
+/// than that, or no number is greater.
+#[tactic(auto, using(crate::proofs::ClosureLemmas::settled_name))]
+fn settled_base(swaps: &[Swap], base: u64, a: Name) -> Option<u64>
+    requires { base + a.num < 2 ^ 64 }
+    ensures name { IfSome result (λ b. rename_name b a
+        ≡ act_name swaps.now (rename_name base a)) }
+    ensures fits { IfSome result (λ b. b + a.num + 1 < 2 ^ 64) }
+{
+    let moved = image(swaps, numbered(base, a));
+    if a.num <= moved.num && moved.num < u64::MAX {
+        Some(moved.num - a.num)
+    } else {
+        None
+    }
 }
 
 impl<'a> Closure<'a> {
@@ -122,6 +141,43 @@ impl<'a> Closure<'a> {
             end,
             term,
         })
+    }
+
+    /// Its term, numbered from another number on, without swappings.
+    fn without_swaps(self, base: u64, end: u64) -> Closure<'a>
+        requires { IsBelow end (rename_term base (term_of self.term.now)) }
+        ensures { closure_term result ≡ rename_term base (term_of self.entry.term.now) }
+    {
+        let Closure {
+            mut swaps,
+            term,
+            ..
+        } = self;
+        swaps.clear();
+        Closure {
+            swaps,
+            base,
+            end,
+            term,
+        }
+    }
+
+    /// The closure; a name on which swappings wait is numbered from where it is what they make of it, so that
+    /// none wait, unless its number falls by them. It takes no memory.
+    pub fn settled(self) -> Closure<'a>
+        ensures { closure_term result ≡ closure_term self.entry }
+    {
+        if self.swaps.is_empty() {
+            return self;
+        }
+        let _end = self.end;
+        match self.term {
+            Term::Name(a) => match settled_base(&self.swaps, self.base, *a) {
+                None => self,
+                Some(base) => self.without_swaps(base, base + a.num + 1),
+            },
+            _ => self,
+        }
     }
 
     /// The closure, taken apart.

@@ -58,17 +58,17 @@ fn collect<L: Look>(first: Pending<'_>, look: &L, conds: &mut Vec<Cond>) -> Resu
                 }
             }
             Term::Pair(t, u) => {
-                left.push(p.within(t))?;
-                left.push(p.within(u))?;
+                left.push(p.innermost(t))?;
+                left.push(p.innermost(u))?;
             }
-            Term::App(_, argument) => left.push(p.within(argument))?,
+            Term::App(_, argument) => left.push(p.innermost(argument))?,
             Term::Abs(sort, num, body) => {
                 let b = Name {
                     sort: *sort,
                     num: *num,
                 };
                 if p.name != numbered(p.base, b) {
-                    left.push(p.within(body))?;
+                    left.push(p.innermost(body))?;
                 }
             }
             Term::Susp(swaps, x) => {

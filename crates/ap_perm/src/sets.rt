@@ -1,6 +1,6 @@
 //! Sets of conditions.
 
-ghost use Rattle.std.specs.Prelude.{◌≡◌, []};
+ghost use Rattle.std.specs.Prelude.{◌≡◌, IsPermutation, []};
 ghost use Rattle.std.specs.Ordering.{is_lt};
 ghost use Rattle.ap_defs.specs.Freshness.{add_conds, cond_before};
 
@@ -28,10 +28,27 @@ fn compare(c: &Cond, d: &Cond) -> Ordering
     }
 }
 
+/// Whether conditions begin with one before which the last one comes.
+fn falls(conds: &[Cond]) -> bool {
+    let count = conds.len();
+    count > 1 && is_before(&conds[count - 1], &conds[0])
+}
+
+/// Turns conditions round that fall, as those do that were put from the last to the first: so most ascend
+/// before they are sorted.
+fn turn_round(conds: &mut Vec<Cond>)
+    ensures { IsPermutation conds.old.items conds.new.items }
+{
+    if falls(conds) {
+        conds.reverse();
+    }
+}
+
 /// Makes a set of conditions, which ascends. It takes no memory.
 pub fn make_set(conds: &mut Vec<Cond>)
     ensures { conds.new.items ≡ add_conds conds.old.items [] }
 {
+    turn_round(conds);
     conds.sort_unstable_by(|c, d| compare(c, d));
     conds.dedup();
 }

@@ -68,15 +68,16 @@ fn inverse_of(alloc: Global, p: &[Swap]) -> Result<Vec<Swap>, Memory>
     Ok(inverted)
 }
 
-/// A closure on which the inverse of a permutation acts.
+/// A closure on which the inverse of a permutation acts. On a name no swappings wait then, unless its number falls.
 fn moved_back<'a>(alloc: Global, p: &[Swap], c: Closure<'a>) -> Result<Closure<'a>, Memory>
     ensures { IfOk result (λ d. closure_term d ≡ act_term (inverse p.now) (closure_term c.entry)) }
 {
     if p.is_empty() {
-        return Ok(c);
+        return Ok(c.settled());
     }
     let back = inverse_of(alloc, p)?;
-    c.moved_by(alloc, &back)
+    let moved = c.moved_by(alloc, &back)?;
+    Ok(moved.settled())
 }
 
 /// A variable is bound to a closure on which the inverse of the variable's permutation acts, and marked where the
@@ -377,7 +378,18 @@ fn rule_by_heads<'a>(
     }
 }
 
+/// Whether the term of a closure is no suspension. It takes no memory.
+fn has_form(c: &Closure<'_>) -> bool
+    ensures { result ≡ true → HasForm (closure_term c.now) }
+{
+    match c.term {
+        Term::Susp(_, _) => false,
+        _ => true,
+    }
+}
+
 /// The rule for two closures. What it binds is no further followed than few swappings wait.
+#[tactic(auto, using(crate::proofs::SuspensionLemmas::form_under))]
 pub fn rule_for<'a>(
     alloc: Global,
     store: &Store<'a>,
@@ -391,6 +403,9 @@ pub fn rule_for<'a>(
     ensures fit { IfOk result (λ m. IsMoveFit (bindings_of store.now) (present store.now).next
         m) }
 {
+    if has_form(&left) && has_form(&right) {
+        return rule_for_parts(alloc, store, left, right);
+    }
     let left = store.shortened(left)?;
     let right = store.shortened(right)?;
     rule_by_heads(alloc, store, left, right)

@@ -7,11 +7,11 @@ use Rattle.std.proofs.lemmas.List.{append-nil, length-append, take-append-le, ta
 use Rattle.ap_defs.specs.Freshness.{Conds, add_conds, cond_eq, has_cond}
 use Rattle.ap_defs.specs.declared.terms.Cond.{Cond}
 use Rattle.ap_defs.specs.declared.terms.Var.{Var}
-use Rattle.ap_theory.proofs.BooleanLemmas.{and_both, and_false, and_right, or_cases, or_if_left, or_if_right, same_test}
+use Rattle.ap_theory.proofs.BooleanLemmas.{and_both, and_false, and_left, and_right, or_cases, or_if_left, or_if_right, same_test}
 use Rattle.ap_theory.proofs.ConditionSetLemmas.{add_conds_same, cond_eq_tells, has_cond-append, has_cond_add}
 use Rattle.ap_theory.proofs.TermLemmas.{number_same, same_number, same_var}
 use Rattle.ap_store.specs.Changes.{AreChanges, Change, Made, Bound, Added, Taken, after, empty, has_on, present_after}
-use Rattle.ap_store.specs.Slots.{AreHeld, AreTakenBelow, IsTakenBelow, all_held, held_in}
+use Rattle.ap_store.specs.Slots.{AreHeld, AreTakenBelow, IsHeldByVariable, IsTakenBelow, all_held, held_in}
 use Rattle.ap_store.specs.Trails.{AreTakenHeld, held_after, held_step, nothing_held}
 use Rattle.ap_store.specs.Triples.{Triple, is_apart, is_on}
 use Rattle.ap_store.proofs.AscendingLemmas.{added_some, ascending_filter, ascending_is_set, none_on, on_none}
@@ -345,3 +345,8 @@ all_set vs cs h ch =
     (held_some c ds vs (λ i k. let x : Var = record { num = i } in and_right (is_on x c) (has_cond c ds) (sym (ap (has_cond c) (h.1 i) ∙ keeps cs x c) ∙ k)))
     (λ k. held_one c vs c.var.num (ap (has_cond c) (h.1 c.var.num) ∙ keeps cs c.var c ∙ and_both (is_on c.var c) (has_cond c ds) (same_var c.var c.var refl) k)))
     ∙ ascending_is_set ds (sound cs ch).well_formed.ascending
+
+pub held_by_variable : (vs : List (Vec Cond Global)) (cs : List Change) → AreHeld vs cs → IsHeldByVariable vs
+held_by_variable vs cs h i c k =
+    let x : Var = record { num = i } in
+    number_same c.var.num i (and_left (is_on x c) (has_cond c (now cs).conditions) (sym (ap (has_cond c) (h.1 i) ∙ keeps cs x c) ∙ k))

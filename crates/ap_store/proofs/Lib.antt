@@ -6,9 +6,13 @@ pub mod SoundLemmas
 pub mod TableLemmas
 pub mod StoredLemmas
 pub mod MarkLemmas
+pub mod LikeLemmas
 pub mod HeldLemmas
+mod JoinedLemmas
 pub mod StoreLemmas
 pub mod FollowLemmas
 pub mod ReachLemmas
+pub mod OccurrenceLemmas
 mod WaitingLemmas
+mod NarrowLemmas
 pub mod WalkLemmas

@@ -2,7 +2,7 @@
 use Rattle.std.proofs.Common.{◌≡◌, ℕ, Bool, true, false, true≢false, List, [], ◌∷◌, ◌++◌, refl, sym, ap, ◌∙◌, subst}
 use Rattle.std.specs.Prelude.{◌==◌, if◌then◌else◌, Some, None, is_some}
 use Rattle.ap_defs.specs.Freshness.{var_eq}
-use Rattle.ap_defs.specs.Substitution.{Binding, occurs, under, ◌:=◌}
+use Rattle.ap_defs.specs.Substitution.{Binding, under, ◌:=◌}
 use Rattle.ap_defs.specs.Terms.{NominalTerm, act_term, susp}
 use Rattle.ap_defs.specs.declared.terms.Swap.{Swap}
 use Rattle.ap_defs.specs.declared.terms.Var.{Var}
@@ -35,7 +35,7 @@ no_vars_stay (Bound x u) a i t h =
 no_vars_stay (Added d) a i t h = h
 no_vars_stay (Taken x ds) a i t h = h
 
-bound_here : (x y : Var) (v : NominalTerm) (bs : List Binding) → var_eq x y ≡ true → under ((y := v) ∷ bs) (susp [] x) ≡ act_term [] v
+pub bound_here : (x y : Var) (v : NominalTerm) (bs : List Binding) → var_eq x y ≡ true → under ((y := v) ∷ bs) (susp [] x) ≡ act_term [] v
 bound_here x y v bs e = rw e refl
 
 module _ (m : ℕ → Bool) (x : Var) (e : m x.num ≡ true) where
@@ -77,7 +77,7 @@ unbound_before (Bound y t) b x h =
 unbound_before (Added d) b x h = h
 unbound_before (Taken y ds) b x h = h
 
-unbound_first : (cs : List Change) (b : lookups.Bound) (x : Var) → raw_after cs b x ≡ None → b x ≡ None
+pub unbound_first : (cs : List Change) (b : lookups.Bound) (x : Var) → raw_after cs b x ≡ None → b x ≡ None
 unbound_first [] b x h = h
 unbound_first (c ∷ cs) b x h = unbound_before c b x (unbound_first cs (raw_step c b) x h)
 

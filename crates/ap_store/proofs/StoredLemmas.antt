@@ -1,10 +1,9 @@
 -- What is kept of each number and beside the trail, as changes are made and undone.
-use Rattle.std.proofs.Common.{◌≡◌, ◌<◌, ◌≤◌, ◌+◌, ◌-◌, ◌^◌, ℕ, zero, suc, min, Bool, true, false, ◌||◌, List, [], ◌∷◌, ◌++◌, length, map, take, get_or, refl, sym, ap, ap₂, ◌∙◌, subst, arith, append_assoc, append-nil, inl, inr, true≢false}
-use Rattle.std.specs.Prelude.{◌==◌, ◌⊎◌, nat_lt, slice_set, if◌then◌else◌, MatchOption, Option, Some, None, Vec, is_some}
+use Rattle.std.proofs.Common.{◌≡◌, ◌<◌, ◌≤◌, ◌+◌, ◌-◌, ◌^◌, ℕ, suc, min, Bool, true, false, ◌||◌, List, [], ◌∷◌, ◌++◌, length, map, take, get_or, refl, sym, ap, ap₂, ◌∙◌, subst, arith, append_assoc, true≢false}
+use Rattle.std.specs.Prelude.{◌==◌, nat_lt, if◌then◌else◌, Option, Some, None, Vec, is_some}
 use Rattle.std.specs.Global.{Global}
 use Rattle.std.proofs.lemmas.Bool.Decides.{nat_tests}
 use Rattle.std.proofs.lemmas.List.{length-append, length-map, length-take-le, map-append, take-map, take_more}
-use Rattle.ap_defs.specs.Freshness.{var_eq}
 use Rattle.ap_defs.specs.Renaming.{IsBelow}
 use Rattle.ap_defs.specs.Terms.{NominalTerm}
 use Rattle.ap_defs.specs.Resolution.{kinds_of}
@@ -16,9 +15,9 @@ use Rattle.ap_perm.specs.Lookups as lookups
 use Rattle.ap_theory.proofs.BooleanLemmas.{or_if_left, or_if_right}
 use Rattle.ap_theory.proofs.TermLemmas.{number_same, same_number}
 use Rattle.ap_theory.specs.Variables.{IsUnbound}
-use Rattle.ap_store.specs.Changes.{AreChanges, Change, Made, Bound, Added, Taken, IsChange, after, empty, present_after}
-use Rattle.ap_store.specs.Slots.{AreKeptBelow, IsKeptBelow, IsStored, binds, bound_in, changes_in, count_noted, kept_term, noted_change, slot_kind, term_or_unit, value_term, var_at}
-use Rattle.ap_store.specs.Trails.{AreTakenHeld, IsTakenHeld, held_after, nothing_bound, nothing_held, raw_after, raw_step}
+use Rattle.ap_store.specs.Changes.{AreChanges, Change, Made, Bound, Added, Taken, IsChange, after, empty}
+use Rattle.ap_store.specs.Slots.{AreKeptBelow, IsStored, binds, bound_in, changes_in, count_noted, noted_change, slot_kind, term_or_unit, var_at}
+use Rattle.ap_store.specs.Trails.{AreTakenHeld, IsTakenHeld, nothing_bound, nothing_held, raw_after, raw_step}
 use Rattle.ap_store.specs.Triples.{AreOnUnbound, Triple}
 use Rattle.ap_store.specs.declared.changes.Entry.{Entry}
 use Rattle.ap_store.specs.declared.changes.Entry.TheVariants as entries
@@ -26,8 +25,8 @@ use Rattle.ap_store.specs.declared.changes.Noted.{Noted}
 use Rattle.ap_store.specs.declared.changes.Noted.TheVariants as notes
 use Rattle.ap_store.specs.declared.slots.Slot.{Slot}
 use Rattle.ap_store.proofs.HeldLemmas.{kept, now}
-use Rattle.ap_store.proofs.ReachLemmas.{all_kept, all_kept_rises, kept_take}
-use Rattle.ap_store.proofs.SoundLemmas.{IsSound, sound}
+use Rattle.ap_store.proofs.ReachLemmas.{all_kept, kept_take}
+use Rattle.ap_store.proofs.SoundLemmas.{sound}
 use Rattle.ap_store.proofs.StoreLemmas.{unbound_beyond}
 use Rattle.ap_store.proofs.TableLemmas.{bound_in_beyond, bound_in_take}
 use Rattle.ap_store.proofs.TrailLemmas.{changes_less, changes_more, linked_less, linked_more, present_more, raw_more, take_whole}

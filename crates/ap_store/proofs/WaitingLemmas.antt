@@ -1,6 +1,6 @@
 -- Parts of terms that wait while others are looked through.
-use Rattle.std.proofs.Common.{◌≡◌, ◌<◌, ◌+◌, ◌∙◌, ℕ, Bool, true, false, true≢false, ◌||◌, List, [], ◌∷◌, ◌++◌, inl, inr, map, refl, sym, ap, arith}
-use Rattle.std.specs.Prelude.{◌⊎◌, if◌then◌else◌, None}
+use Rattle.std.proofs.Common.{◌≡◌, ◌<◌, ◌+◌, ◌∙◌, ℕ, Bool, false, ◌||◌, List, [], ◌∷◌, ◌++◌, inl, inr, map, refl, sym, ap, arith}
+use Rattle.std.specs.Prelude.{◌⊎◌, None}
 use Rattle.ap_defs.specs.Freshness.{var_eq}
 use Rattle.ap_defs.specs.Renaming.{rename_swap, rename_term, rename_var}
 use Rattle.ap_defs.specs.Substitution.{bound_term, occurs, under}
@@ -13,11 +13,9 @@ use Rattle.ap_defs.specs.declared.terms.Var.{Var}
 use Rattle.ap_perm.proofs.VisitLemmas.{visits_some}
 use Rattle.ap_theory.proofs.BooleanLemmas.{false_if_not, or_swap}
 use Rattle.ap_theory.proofs.TermLemmas.{number_same}
-use Rattle.ap_store.specs.Founds.{bare_term, does_occur, occurs_in}
+use Rattle.ap_store.specs.Founds.{bare_term, occurs_in}
 use Rattle.ap_store.specs.Marks.{HasNoVars}
 use Rattle.ap_store.specs.declared.bare.Bare.{Bare}
-use Rattle.ap_store.specs.declared.occurrences.Occurrence.{Occurrence}
-use Rattle.ap_store.specs.declared.occurrences.Occurrence.TheVariants as occurrences
 use Rattle.ap_store.specs.declared.store.Store.{Store}
 use Rattle.ap_store.specs.Views.{bindings_of, rank, raw_bound}
 use Rattle.ap_store.proofs.BindLemmas.{occurs_moved}
@@ -78,19 +76,3 @@ module _ (s : Store) (n : ℕ) (t : Term) where
     apart_here x e h k =
         ap (λ (u : Term). part_has s n u x) e ∙ unbound_occurs s x (rename_var n z) (map (rename_swap n) q) h
         ∙ false_if_not (var_eq x (rename_var n z)) (λ i. k (number_same x.num (n + z.num) i))
-
-pub not_found : (is_open : Bool) → does_occur (if is_open then occurrences.Apart else occurrences.Ground) ≡ false
-not_found true = refl
-not_found false = refl
-
-abbrev may_be_open : Occurrence → Bool
-may_be_open occurrences.Occurs = true
-may_be_open occurrences.Apart = true
-may_be_open occurrences.Ground = false
-
-pub apart_not_ground : occurrences.Apart ≡ occurrences.Ground → ⊥
-apart_not_ground e = true≢false (ap may_be_open e)
-
-pub shut_if_ground : (is_open : Bool) → (if is_open then occurrences.Apart else occurrences.Ground) ≡ occurrences.Ground → is_open ≡ false
-shut_if_ground false e = refl
-shut_if_ground true e = absurd (apart_not_ground e)

@@ -54,3 +54,4 @@ abbrev pub does_occur : Occurrence → Bool
 does_occur occurrences.Occurs = true
 does_occur occurrences.Apart = false
 does_occur occurrences.Ground = false
+does_occur (occurrences.Like w) = false

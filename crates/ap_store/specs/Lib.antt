@@ -6,5 +6,7 @@ pub mod WellFormed
 pub mod Trails
 pub mod Slots
 pub mod Marks
+pub mod Likes
 pub mod Founds
+pub mod Narrow
 pub mod Views

@@ -1,8 +1,9 @@
 -- What is kept of each number, and beside the trail.
 use Rattle.std.specs.Global.{Global}
-use Rattle.std.specs.Prelude.{◌≡◌, ◌<◌, ◌^◌, ◌==◌, ◌||◌, ℕ, zero, suc, Bool, false, List, [], ◌∷◌, ◌++◌, Option, Some, None, Vec, is_some, length}
+use Rattle.std.specs.Prelude.{◌≡◌, ◌<◌, ◌^◌, ◌==◌, ◌||◌, ℕ, zero, suc, Bool, true, false, List, [], ◌∷◌, ◌++◌, Option, Some, None, Vec, is_some, length}
 use mathlib.Core.HLevel.{Unit-prop}
 use Rattle.std.proofs.Props.{props}
+use Rattle.ap_defs.specs.Freshness.{has_cond}
 use Rattle.ap_defs.specs.Renaming.{IsBelow, rename_term}
 use Rattle.ap_defs.specs.Terms.{NominalTerm, term_of, unit}
 use Rattle.ap_defs.specs.Types.{NominalKind, kind_of}
@@ -98,6 +99,10 @@ abbrev pub held_in : List (Vec Cond Global) → ℕ → List Cond
 held_in [] i = []
 held_in (v ∷ vs) zero = v.items
 held_in (v ∷ vs) (suc i) = held_in vs i
+
+-- what is held of a number is on its variable
+abbrev pub IsHeldByVariable : List (Vec Cond Global) → Type 0
+IsHeldByVariable held = (i : ℕ) (c : Cond) → has_cond c (held_in held i) ≡ true → c.var.num ≡ i
 
 abbrev pub all_held : List (Vec Cond Global) → List Cond
 all_held [] = []

@@ -3,10 +3,12 @@
 //! conditions has no lists.
 
 ghost use Rattle.std.specs.Prelude.{◌≡◌, ℕ, ◌+◌, ◌-◌, ◌<◌, ◌≤◌, ◌==◌, ◌++◌, ◌∷◌, [], IfOk, OnOk, OnErr, if◌then◌else◌, length, take};
-ghost use Rattle.ap_store.specs.Slots.{all_held, held_in};
+ghost use Rattle.ap_defs.specs.Freshness.{add_conds};
+ghost use Rattle.ap_store.specs.Slots.{IsHeldByVariable, all_held, held_in};
 
 use ap_defs::memory::Memory;
 use ap_defs::terms::Cond;
+use ap_perm::sets::make_set;
 use std::alloc::Global;
 use std::mem;
 
@@ -97,13 +99,30 @@ pub fn put_back(held: &mut Vec<Vec<Cond>>, place: usize, conds: Vec<Cond>)
     held[place] = conds;
 }
 
-/// What is held of each number, one after the other.
-pub fn all_of(alloc: Global, held: &[Vec<Cond>]) -> Result<Vec<Cond>, Memory>
-    ensures { IfOk result (λ v. v.items ≡ all_held held.now) }
+/// Puts the set of some conditions behind others. It is made in `own`, whose memory is used again.
+fn put_set(own: &mut Vec<Cond>, conds: &[Cond], all: &mut Vec<Cond>) -> Result<(), Memory>
+    ensures { OnOk result (all.new.items ≡ all.old.items ++ add_conds conds.now []) }
+{
+    if conds.is_empty() {
+        return Ok(());
+    }
+    own.clear();
+    own.extend_from_slice(conds)?;
+    make_set(own);
+    all.extend_from_slice(own)?;
+    Ok(())
+}
+
+/// The set of all conditions that are held. Those of a number come before those of higher ones, so each
+/// number's are made a set by themselves.
+pub fn set_of(alloc: Global, held: &[Vec<Cond>]) -> Result<Vec<Cond>, Memory>
+    requires { IsHeldByVariable held.now }
+    ensures { IfOk result (λ v. v.items ≡ add_conds (all_held held.now) []) }
 {
     let mut all = Vec::new(alloc);
+    let mut own = Vec::new(alloc);
     'gathering: for conds in held {
-        all.extend_from_slice(conds)?;
+        put_set(&mut own, conds, &mut all)?;
     }
     Ok(all)
 }

@@ -1,12 +1,17 @@
 //! Occurrences of variables.
 
-ghost use Rattle.std.specs.Prelude.{◌≡◌, ◌↔◌, if◌then◌else◌, IfOk, IsTrue, true};
+ghost use Rattle.std.specs.Prelude.{◌≡◌, ◌==◌, ◌↔◌, ◌⊎◌, ℕ, [], true, Some, if◌then◌else◌, IfOk, IsTrue};
 ghost use Rattle.ap_defs.specs.Substitution.{occurs, under};
+ghost use Rattle.ap_defs.specs.Terms.{susp};
+ghost use Rattle.ap_defs.specs.declared.terms.Var.{Var as variable};
 ghost use Rattle.ap_store.specs.Founds.{IsSight, bare_term, does_occur, occurs_in};
+ghost use Rattle.ap_store.specs.Likes.{HaveSameVars};
 ghost use Rattle.ap_store.specs.Marks.{HasNoVars};
+ghost use Rattle.ap_store.specs.Slots.{var_at};
 ghost use Rattle.ap_store.specs.Views.{bindings_of, meaning_in};
 
 use crate::bare::Bare;
+use crate::narrow::{Narrowed, narrow_down};
 use crate::slots::Found;
 use crate::store::Store;
 use ap_defs::memory::Memory;
@@ -14,12 +19,14 @@ use ap_defs::terms::{Term, Var};
 use ap_perm::closures::Closure;
 use std::alloc::Global;
 
-/// Whether a variable occurs in a term: it does; it doesn't; or no variable stands there at all.
+/// Whether a variable occurs in a term: it does; it doesn't; no variable stands there at all; or it doesn't, and
+/// those that stand there are those of one variable.
 #[derive(Clone, Copy)]
 pub enum Occurrence {
     Occurs,
     Apart,
     Ground,
+    Like(Var),
 }
 
 impl Occurrence {
@@ -36,6 +43,27 @@ impl Occurrence {
     {
         matches!(self, Occurrence::Ground)
     }
+
+    /// The number of the variable whose variables stand there, if it is known.
+    pub(crate) fn like(self) -> Option<u32>
+        ensures { (w : ℕ) → result ≡ Some w → self ≡ Occurrence.Like (var_at w) }
+    {
+        match self {
+            Occurrence::Like(w) => num_of(w),
+            _ => None,
+        }
+    }
+}
+
+/// The number of a variable, if it is so small as each is.
+fn num_of(x: Var) -> Option<u32>
+    ensures { (n : ℕ) → result ≡ Some n → x ≡ var_at n }
+{
+    if x.num <= u32::MAX as u64 {
+        Some(x.num as u32)
+    } else {
+        None
+    }
 }
 
 /// What the occurs check sees of a variable: it is unbound, it stands for a term without variables, or the term of
@@ -48,7 +76,7 @@ pub enum Sight<'a> {
 }
 
 /// What is seen of a variable. It takes no memory.
-fn seen<'a>(store: &Store<'a>, x: Var) -> Sight<'a>
+pub(crate) fn seen<'a>(store: &Store<'a>, x: Var) -> Sight<'a>
     ensures { IsSight store.now x result }
 {
     match store.found(x) {
@@ -88,6 +116,7 @@ fn occurs_below<'a>(
     ensures found { IfOk result (λ o. does_occur o ≡ occurs_in store.now x first.entry) }
     ensures no_vars { IfOk result (λ o. o ≡ Occurrence.Ground →
         HasNoVars (under (bindings_of store.now) (bare_term first.entry))) }
+    ensures like { IfOk result (λ o. (w : variable) → (o ≡ Occurrence.Like w → ⊥)) }
 {
     let mut is_open = false;
     let mut waiting = Vec::new(alloc);
@@ -138,6 +167,59 @@ fn occurs_below<'a>(
     }
 }
 
+/// Whether a variable is the unbound one whose variables are left, and it alone. Where it is another one, this is
+/// told if it stands behind bound ones.
+fn at_end(x: Var, w: Var, is_behind: bool) -> Occurrence
+    ensures { result ≡ (if x.num == w.num then Occurrence.Occurs
+        else (if is_behind then Occurrence.Like w else Occurrence.Apart)) }
+{
+    if x.num == w.num {
+        Occurrence::Occurs
+    } else if is_behind {
+        Occurrence::Like(w)
+    } else {
+        Occurrence::Apart
+    }
+}
+
+/// What was found of a variable in a term, whose variables are those of another one, if it is given.
+fn told_of(found: Occurrence, like: Option<Var>) -> Occurrence
+    ensures found { does_occur result ≡ does_occur found }
+    ensures no_vars { result ≡ Occurrence.Ground → found ≡ Occurrence.Ground }
+    ensures like { (w : variable) → result ≡ Occurrence.Like w →
+        (found ≡ Occurrence.Like w) ⊎ (like ≡ Some w) }
+{
+    match (found, like) {
+        (Occurrence::Apart, Some(w)) => Occurrence::Like(w),
+        _ => found,
+    }
+}
+
+/// Whether a variable occurs in what a part stands for: where it may be in the variables of a single one only, in
+/// what that stands for.
+fn occurs_in_part<'a>(
+    alloc: Global,
+    store: &Store<'a>,
+    x: Var,
+    first: Bare<'a>,
+) -> Result<Occurrence, Memory>
+    ensures found { IfOk result (λ o. does_occur o ≡ occurs_in store.now x first.entry) }
+    ensures no_vars { IfOk result (λ o. o ≡ Occurrence.Ground →
+        HasNoVars (under (bindings_of store.now) (bare_term first.entry))) }
+    ensures like { IfOk result (λ o. (w : variable) → o ≡ Occurrence.Like w →
+        HaveSameVars (under (bindings_of store.now) (bare_term first.entry))
+        (under (bindings_of store.now) (susp [] w))) }
+{
+    match narrow_down(store, first) {
+        Narrowed::Ground => Ok(Occurrence::Ground),
+        Narrowed::Ends(w, is_behind) => Ok(at_end(x, w, is_behind)),
+        Narrowed::Goes(like, b) => {
+            let found = occurs_below(alloc, store, x, b)?;
+            Ok(told_of(found, like))
+        }
+    }
+}
+
 impl<'a> Store<'a> {
     /// Whether a variable occurs in what a closure stands for under the bindings. It looks at no term where the
     /// variable is new, and takes memory where a left part of a pair is looked through alone.
@@ -145,6 +227,8 @@ impl<'a> Store<'a> {
         ensures found { IfOk result (λ o. does_occur o ≡ occurs x (meaning_in self.now c.now)) }
         ensures no_vars { IfOk result (λ o. o ≡ Occurrence.Ground →
             HasNoVars (meaning_in self.now c.now)) }
+        ensures like { IfOk result (λ o. (w : variable) → o ≡ Occurrence.Like w →
+            HaveSameVars (meaning_in self.now c.now) (under (bindings_of self.now) (susp [] w))) }
     {
         if self.is_new(x, c) {
             return Ok(Occurrence::Apart);
@@ -154,7 +238,7 @@ impl<'a> Store<'a> {
             end: c.end,
             term: c.term,
         };
-        let found = occurs_below(alloc, self, x, first)?;
+        let found = occurs_in_part(alloc, self, x, first)?;
         Ok(found)
     }
 }

@@ -2,6 +2,7 @@
 
 ghost use Rattle.ap_perm.specs.Lookups.{IsRanked};
 ghost use Rattle.ap_store.specs.Changes.{empty};
+ghost use Rattle.ap_store.specs.Likes.{AreLikes, like_in, likes_prop};
 ghost use Rattle.ap_store.specs.Marks.{AreGroundMarks, ground_in, marks_prop};
 ghost use Rattle.ap_store.specs.Slots.{AreHeld, IsStored, changes_in, held_prop, stored_prop};
 ghost use Rattle.ap_store.specs.Trails.{no_rank, nothing_bound, rank_after, raw_after};
@@ -10,6 +11,8 @@ mod reading;
 
 use crate::changes::{Entry, Noted};
 use crate::held::{held_of, hold, let_go, put_back, take_out};
+use crate::likes::keep_like;
+use crate::occurrences::Occurrence;
 use crate::slots::{Slot, Value, plain_value, value_of};
 use crate::tables::{add_slots, put_value};
 use ap_defs::goals::Local;
@@ -31,35 +34,42 @@ pub struct Mark {
 /// Contracts see it as its present triple of bindings, conditions and next number, the list of the
 /// earlier triples, and the list of kinds. There each binding is carried out in the others; what is
 /// kept of it is the closure alone, in the table. All that is bound is below `reach`. What is marked stood for a
-/// term without variables when it was bound, and so does since.
+/// term without variables when it was bound, and so does since. The variable in `likes` beside a bound one stood
+/// for a term with the same variables when that was bound, and so does since.
 #[derive(Drop)]
 pub struct Store<'a> {
     table: Vec<Slot<'a>>,
     held: Vec<Vec<Cond>>,
     trail: Vec<Entry>,
     noted: Vec<Noted>,
+    likes: Vec<Option<u32>>,
     reach: u64,
     pub ghost stored: { IsStored table.items trail.items noted.items reach } by { stored_prop table.items trail.items noted.items reach },
     pub ghost holds: { AreHeld held.items (changes_in table.items trail.items noted.items) } by { held_prop held.items (changes_in table.items trail.items noted.items) },
     pub ghost marked: { AreGroundMarks (ground_in table.items)
         (changes_in table.items trail.items noted.items) empty } by { marks_prop (ground_in table.items)
             (changes_in table.items trail.items noted.items) empty },
+    pub ghost likened: { AreLikes (like_in likes.items)
+        (changes_in table.items trail.items noted.items) empty } by { likes_prop (like_in likes.items)
+            (changes_in table.items trail.items noted.items) empty },
     pub ghost ranked: { IsRanked (raw_after (changes_in table.items trail.items noted.items) nothing_bound)
         (rank_after (changes_in table.items trail.items noted.items) empty no_rank) },
 }
 
 impl<'a> Store<'a> {
-    ghost use Rattle.std.specs.Prelude.{◌≡◌, ◌+◌, ◌≤◌, ◌<◌, ◌++◌, ◌∷◌, [], false, true, Some, IfOk, OnOk, OnErr, filter, length, take, vec_len, vec_capacity};
+    ghost use Rattle.std.specs.Prelude.{◌≡◌, ℕ, ◌+◌, ◌≤◌, ◌<◌, ◌++◌, ◌∷◌, [], false, true, Some, IfOk, OnOk, OnErr, filter, length, take, vec_len, vec_capacity};
     ghost use Rattle.ap_defs.specs.Renaming.{IsBelow, rename_term};
     ghost use Rattle.ap_defs.specs.Resolution.{kinds_of};
     ghost use Rattle.ap_defs.specs.Substitution.{occurs, under};
-    ghost use Rattle.ap_defs.specs.Terms.{term_of};
+    ghost use Rattle.ap_defs.specs.Terms.{susp, term_of};
     ghost use Rattle.ap_defs.specs.Types.{locals_of};
+    ghost use Rattle.ap_defs.specs.declared.terms.Var.{Var as variable};
     ghost use Rattle.ap_perm.specs.Closures.{closure_term};
     ghost use Rattle.ap_theory.specs.Variables.{IsUnbound};
     ghost use Rattle.ap_store.specs.Changes.{has_on, replace_conditions, with_bound};
+    ghost use Rattle.ap_store.specs.Likes.{HaveSameVars};
     ghost use Rattle.ap_store.specs.Marks.{HasNoVars, is_ground_value};
-    ghost use Rattle.ap_store.specs.Slots.{IsKeptBelow, value_term, kept_term};
+    ghost use Rattle.ap_store.specs.Slots.{IsKeptBelow, value_term, kept_term, var_at};
     ghost use Rattle.ap_store.specs.Triples.{AreOnUnbound, IsPrefixOf, is_apart, is_on, with_binding, with_conditions, with_next};
     ghost use Rattle.ap_store.specs.Views.{IsUnchanged, bindings_of, kinds, meaning_in, past, present, versions};
 
@@ -74,6 +84,7 @@ impl<'a> Store<'a> {
             held: Vec::new(alloc),
             trail: Vec::new(alloc),
             noted: Vec::new(alloc),
+            likes: Vec::new(alloc),
             reach: 0,
         }
     }
@@ -128,13 +139,13 @@ impl<'a> Store<'a> {
         let end = c.end;
         let value = value_of(alloc, c, is_ground)?;
         let taken = self.take_conditions(alloc, x)?;
-        self.note_binding(x, value, end);
+        self.note_binding(x, value, end, None);
         Ok(taken)
     }
 
     /// Binds an unbound variable, on which there are no conditions, to a term on which no swappings wait,
-    /// whose identifiers are numbered from `base` on, below `end`, and in which it does not occur, marked where
-    /// that is known to be ground. After want of memory the store is as before; a `base` of `2 ^ 32` and more
+    /// whose identifiers are numbered from `base` on, below `end`, and in which it does not occur, with what was
+    /// found of the variables there. After want of memory the store is as before; a `base` of `2 ^ 32` and more
     /// is such a want.
     pub fn bind_free(
         &mut self,
@@ -142,7 +153,7 @@ impl<'a> Store<'a> {
         base: u64,
         end: u64,
         term: &'a Term,
-        is_ground: bool,
+        found: Occurrence,
     ) -> Result<(), Memory>
         requires made { x.num < (present self.old).next }
         requires unbound { IsUnbound (bindings_of self.old) x }
@@ -151,8 +162,11 @@ impl<'a> Store<'a> {
         requires term { IsBelow (present self.old).next (rename_term base (term_of term.now)) }
         requires absent { occurs x (under (bindings_of self.old)
             (rename_term base (term_of term.now))) ≡ false }
-        requires no_vars { is_ground ≡ true →
+        requires no_vars { found ≡ Occurrence.Ground →
             HasNoVars (under (bindings_of self.old) (rename_term base (term_of term.now))) }
+        requires like { (w : variable) → found ≡ Occurrence.Like w → HaveSameVars
+            (under (bindings_of self.old) (rename_term base (term_of term.now)))
+            (under (bindings_of self.old) (susp [] w)) }
         ensures present { OnOk result (present self.new
             ≡ with_binding x (under (bindings_of self.old) (rename_term base (term_of term.now)))
             (present self.old)) }
@@ -164,7 +178,8 @@ impl<'a> Store<'a> {
             return Err(Memory);
         }
         self.make_room()?;
-        self.note_binding(x, plain_value(base as u32, term, is_ground), end);
+        let value = plain_value(base as u32, term, found.is_ground());
+        self.note_binding(x, value, end, found.like());
         Ok(())
     }
 
@@ -275,8 +290,9 @@ impl<'a> Store<'a> {
         Ok(())
     }
 
-    /// Notes what a variable is bound to; the variables in it are below `end`.
-    fn note_binding(&mut self, x: Var, value: Value<'a>, end: u64)
+    /// Notes what a variable is bound to; the variables in it are below `end`, and the same as those in what
+    /// another one stands for, if one is given.
+    fn note_binding(&mut self, x: Var, value: Value<'a>, end: u64, like: Option<u32>)
         requires room { vec_len self.old.trail < vec_capacity self.old.trail }
         requires made { x.num < (present self.old).next }
         requires unbound { IsUnbound (bindings_of self.old) x }
@@ -286,6 +302,9 @@ impl<'a> Store<'a> {
         requires absent { occurs x (under (bindings_of self.old) (kept_term value)) ≡ false }
         requires mark { is_ground_value value ≡ true →
             HasNoVars (under (bindings_of self.old) (kept_term value)) }
+        requires like { (w : ℕ) → like ≡ Some w → HaveSameVars
+            (under (bindings_of self.old) (kept_term value))
+            (under (bindings_of self.old) (susp [] (var_at w))) }
         requires apart { has_on x (present self.old).conditions ≡ false }
         ensures present { present self.new
             ≡ with_bound x (under (bindings_of self.old) (kept_term value.entry)) (present self.old) }
@@ -294,6 +313,7 @@ impl<'a> Store<'a> {
     {
         self.reach = self.reach.max(end);
         put_value(&mut self.table, x.num as usize, value);
+        keep_like(&mut self.likes, x.num as usize, like);
         self.trail.push_reserved(Entry::Bound(x.num as u32));
     }
 

@@ -1,7 +1,5 @@
 -- How what is known of a text goes on from item to item.
 use Rattle.std.proofs.Common.{◌≡◌, ℕ, ◌+◌, List, [], ◌∷◌, ◌++◌, length, Result, Ok, Err, Option, refl, sym, ap, subst, ◌∙◌, arith, ◌≤◌, append-nil, append_assoc, length-append}
-use Rattle.ap_defs.specs.RawTerms.{RawTerm}
-use Rattle.ap_defs.specs.Goals.{ProgramOver}
 use Rattle.ap_defs.specs.declared.faults.Fault.TheVariants as faults
 use Rattle.ap_defs.specs.declared.faults.SyntaxFault.{SyntaxFault}
 use Rattle.ap_defs.specs.declared.faults.TypeFault.{TypeFault}
@@ -16,26 +14,27 @@ use Rattle.ap_lexer.proofs.Fronts.{dots_split}
 use Rattle.ap_trees.specs.Items.{ItemOf}
 use Rattle.ap_syntax.specs.Reading.{FirstOf, Reads, all_read, after_items}
 use Rattle.ap_syntax.proofs.Readings.{next_of, fault_of, after_items-append}
-use Rattle.ap_typecheck.specs.Checking.{IsProgramOf, IsFirstTypeFault}
+use Rattle.ap_typecheck.specs.Checking.{IsFirstTypeFault}
+use Rattle.ap_typecheck.specs.declared.texts.Typing.{Typing}
 use Rattle.ap_text.specs.declared.outlook.Outlook.{Outlook}
 use Rattle.ap_text.specs.declared.outlook.Outlook.TheVariants as outlooks
-use Rattle.ap_text.specs.Outlooks.{HasTyped, ReadsTo, ReadsAndTyped, IsOutlook}
+use Rattle.ap_text.specs.Outlooks.{HasTyped, ReadsTo, ReadsAndTyped, IsOutlook, HasTypedText}
 use Rattle.ap_text.proofs.TokenCounts.{few_lexemes}
-use Rattle.ap_text.specs.Texts.{HasItems, IsTypedText, IsFaultOfText, faulty_item, ill_typed}
+use Rattle.ap_text.specs.Texts.{HasItems, IsFaultOfText, faulty_item, ill_typed}
 
 -- not faulty in its grammar
 abbrev pub IsGrammatical : Outlook → Type 0
 IsGrammatical o = (f : SyntaxFault) → o ≡ outlooks.Ungrammatical f → ⊥
 
-pub typed_of : (all left : List Lexeme) (n : ℕ) (o : Outlook) → IsGrammatical o → IsOutlook all left n o → ReadsAndTyped all left n o
-typed_of all left n (outlooks.Typed t) fine h = h
-typed_of all left n (outlooks.Mistyped f) fine h = h
-typed_of all left n (outlooks.Ungrammatical f) fine h = absurd (fine f refl)
+pub typed_of : (all left : List Lexeme) (n : ℕ) (t : Typing) (o : Outlook) → IsGrammatical o → IsOutlook all left n t o → ReadsAndTyped all left n t o
+typed_of all left n t outlooks.Typed fine h = h
+typed_of all left n t (outlooks.Mistyped f) fine h = h
+typed_of all left n t (outlooks.Ungrammatical f) fine h = absurd (fine f refl)
 
-outlook_of : (all left : List Lexeme) (n : ℕ) (o : Outlook) → ReadsAndTyped all left n o → IsOutlook all left n o
-outlook_of all left n (outlooks.Typed t) h = h
-outlook_of all left n (outlooks.Mistyped f) h = h
-outlook_of all left n (outlooks.Ungrammatical f) h = absurd h.2
+outlook_of : (all left : List Lexeme) (n : ℕ) (t : Typing) (o : Outlook) → ReadsAndTyped all left n t o → IsOutlook all left n t o
+outlook_of all left n t outlooks.Typed h = h
+outlook_of all left n t (outlooks.Mistyped f) h = h
+outlook_of all left n t (outlooks.Ungrammatical f) h = absurd h.2
 
 reads_on : (all left : List Lexeme) (n : ℕ) (is : List ItemOf) (x : ItemOf) → ReadsTo all left n is → FirstOf n left (Ok (x, after_item left)) → ReadsTo all (after_item left) (n + 1) (is ++ x ∷ [])
 reads_on all left n is x h first =
@@ -43,38 +42,45 @@ reads_on all left n is x h first =
     (long, λ r g. subst (Reads 1 all) (after_items-append is (x ∷ []) r) (h.1 (after_items (x ∷ []) r) (next_of n left x (after_item left) r first g)))
 
 -- one more item
-pub item_on : (all left : List Lexeme) (n d : ℕ) (o next : Outlook) (x : ItemOf) → IsGrammatical o → IsOutlook all left n o → FirstOf n left (Ok (x, after_item left))
-    → ((is : List ItemOf) → HasTyped is o → HasTyped (is ++ x ∷ []) next) → d ≡ 1 → IsOutlook all (after_item left) (n + d) next
-item_on all left n d o next x fine h first typed one =
-    let k = typed_of all left n o fine h in
-    subst (λ m. IsOutlook all (after_item left) (n + m) next) (sym one)
-    (outlook_of all (after_item left) (n + 1) next (k.0 ++ x ∷ [], reads_on all left n k.0 x k.1 first, typed k.0 k.2))
+pub item_on : (all left : List Lexeme) (n d : ℕ) (t after : Typing) (o next : Outlook) (x : ItemOf) → IsGrammatical o → IsOutlook all left n t o
+    → FirstOf n left (Ok (x, after_item left)) → ((is : List ItemOf) → HasTyped is t o → HasTyped (is ++ x ∷ []) after next) → d ≡ 1
+    → IsOutlook all (after_item left) (n + d) after next
+item_on all left n d t after o next x fine h first typed one =
+    let k = typed_of all left n t o fine h in
+    subst (λ m. IsOutlook all (after_item left) (n + m) after next) (sym one)
+    (outlook_of all (after_item left) (n + 1) after next (k.0 ++ x ∷ [], reads_on all left n k.0 x k.1 first, typed k.0 k.2))
 
 -- an item that isn't in the grammar
-pub fault_on : (all left : List Lexeme) (n : ℕ) (o : Outlook) (f : SyntaxFault) → IsGrammatical o → IsOutlook all left n o → FirstOf n left (Err f) → Reads 1 all (Err f)
-fault_on all left n o f fine h first = let k = typed_of all left n o fine h in k.1.1 (Err f) (fault_of n left f first)
+pub fault_on : (all left : List Lexeme) (n : ℕ) (t : Typing) (o : Outlook) (f : SyntaxFault) → IsGrammatical o → IsOutlook all left n t o → FirstOf n left (Err f) → Reads 1 all (Err f)
+fault_on all left n t o f fine h first = let k = typed_of all left n t o fine h in k.1.1 (Err f) (fault_of n left f first)
 
 -- a text of which nothing is left
 items_read : (text : List ℕ) (all : List Lexeme) (n : ℕ) (is : List ItemOf) → lexed text ≡ Ok all → ReadsTo all [] n is → HasItems text is
 items_read text all n is e h = (all, e, subst (λ js. Reads 1 all (Ok js)) (append-nil is) (h.1 (Ok []) all_read))
 
-pub typed_text : (text : List ℕ) (all : List Lexeme) (n : ℕ) (o : Outlook) (p : ProgramOver RawTerm) → lexed text ≡ Ok all → ReadsAndTyped all [] n o → ((is : List ItemOf) → HasTyped is o → IsProgramOf is p) → IsTypedText text p
-typed_text text all n o p e h program = (h.0, items_read text all n h.0 e h.1, program h.0 h.2)
+-- a text has no more items than tokens
+pub few_items : (all : List Lexeme) (n : ℕ) (is : List ItemOf) → ReadsTo all [] n is → n ≡ item_after all → length all ≤ size_limit → length is ≤ size_limit
+few_items all n is h number few = omega (arith, h.0, number, few, count_by-le-length is_dot all)
 
-pub mistyped : (text : List ℕ) (all : List Lexeme) (n : ℕ) (f : TypeFault) → lexed text ≡ Ok all → ReadsAndTyped all [] n (outlooks.Mistyped f) → IsFaultOfText text (faults.Types f)
-mistyped text all n f e h = ill_typed h.0 f (items_read text all n h.0 e h.1) (subst (λ is. IsFirstTypeFault is f) (append-nil h.0) (h.2 []))
+pub typed_text : (text : List ℕ) (all : List Lexeme) (n : ℕ) (t : Typing) → lexed text ≡ Ok all → ReadsAndTyped all [] n t outlooks.Typed → n ≡ item_after all → length all ≤ size_limit
+    → HasTypedText text t
+typed_text text all n t e h number few = (h.0, items_read text all n h.0 e h.1, few_items all n h.0 h.1 number few, h.2)
+
+pub mistyped : (text : List ℕ) (all : List Lexeme) (n : ℕ) (t : Typing) (f : TypeFault) → lexed text ≡ Ok all → ReadsAndTyped all [] n t (outlooks.Mistyped f) → IsFaultOfText text (faults.Types f)
+mistyped text all n t f e h = ill_typed h.0 f (items_read text all n h.0 e h.1) (subst (λ is. IsFirstTypeFault is f) (append-nil h.0) (h.2 []))
 
 pub ungrammatical : (text : List ℕ) (all : List Lexeme) (f : SyntaxFault) → lexed text ≡ Ok all → Reads 1 all (Err f) → IsFaultOfText text (faults.Syntax f)
 ungrammatical text all f e h = faulty_item f (all, e, h)
 
 -- a fault of types stays the first one
-pub mistyped_on : (is : List ItemOf) (x : ItemOf) (f : TypeFault) → HasTyped is (outlooks.Mistyped f) → HasTyped (is ++ x ∷ []) (outlooks.Mistyped f)
-mistyped_on is x f h = λ more. subst (λ js. IsFirstTypeFault js f) (sym (append_assoc is (x ∷ []) more)) (h (x ∷ more))
+pub mistyped_on : (is : List ItemOf) (x : ItemOf) (t : Typing) (f : TypeFault) → HasTyped is t (outlooks.Mistyped f) → HasTyped (is ++ x ∷ []) t (outlooks.Mistyped f)
+mistyped_on is x t f h = λ more. subst (λ js. IsFirstTypeFault js f) (sym (append_assoc is (x ∷ []) more)) (h (x ∷ more))
 
 -- few items come before one that is typed
-pub few_before : (all left : List Lexeme) (n : ℕ) (o : Outlook) → IsGrammatical o → IsOutlook all left n o → n ≤ size_limit + 1 → (is : List ItemOf) × (length is ≤ size_limit) × HasTyped is o
-few_before all left n o fine h few =
-    let k = typed_of all left n o fine h in
+pub few_before : (all left : List Lexeme) (n : ℕ) (t : Typing) (o : Outlook) → IsGrammatical o → IsOutlook all left n t o → n ≤ size_limit + 1
+    → (is : List ItemOf) × (length is ≤ size_limit) × HasTyped is t o
+few_before all left n t o fine h few =
+    let k = typed_of all left n t o fine h in
     let short : length k.0 ≤ size_limit = omega (arith, k.1.0, few) in
     (k.0, short, k.2)
 
@@ -92,10 +98,6 @@ lexed_all start end text n r w l whole same number read =
     let tokens : lexemes_of end.text.now ≡ lexemes_left start = ap (λ (b : Bor (List ℕ)). lexemes_of b.now) same ∙ sym l in
     let bytes : end.whole.now ≡ text = ap (λ (b : Bor (List ℕ)). b.now) whole ∙ w in
     sym (ap lexed bytes) ∙ read (number ∙ ap item_after (sym tokens)) ∙ ap (λ ts. or_fault ts r) tokens
-
--- a text has no more items than tokens
-pub few_items : (all : List Lexeme) (n : ℕ) (is : List ItemOf) → ReadsTo all [] n is → n ≡ item_after all → length all ≤ size_limit → length is ≤ size_limit
-few_items all n is h number few = omega (arith, h.0, number, few, count_by-le-length is_dot all)
 
 -- how the numbers of items go on
 pub next_few : (all left : List Lexeme) (n : ℕ) → n + count_by is_dot left ≡ item_after all → length all ≤ size_limit → n + count_by is_dot left ≤ size_limit + 1

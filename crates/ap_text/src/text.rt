@@ -1,10 +1,12 @@
 // From a text to its program.
-ghost use Rattle.std.specs.Prelude.{◌≡◌, ◌≤◌, [], IfOk, IfErr, length};
+ghost use Rattle.std.specs.Prelude.{◌≡◌, ◌≤◌, [], IfOk, IfErr, OnOk, length};
 ghost use Rattle.ap_defs.specs.RawTerms.{raw_of};
 ghost use Rattle.ap_defs.specs.Goals.{program_of, program_over};
 ghost use Rattle.ap_defs.specs.Limits.{size_limit};
 ghost use Rattle.ap_program.specs.NameRestriction.{item_count};
 ghost use Rattle.ap_program.specs.Typed.{IsTypedRawProgram};
+ghost use Rattle.ap_typecheck.specs.Typings.{IsTypingOf};
+ghost use Rattle.ap_text.specs.Outlooks.{HasTypedText};
 ghost use Rattle.ap_text.specs.Texts.{IsProgramOfText, IsRefusedText, IsTypedText};
 
 use crate::error::TextError;
@@ -16,7 +18,28 @@ use ap_defs::terms::Raw;
 use ap_lexer::Cursor;
 use ap_program::restricted::Restricted;
 use ap_restrict::restrict::restrict;
+use ap_typecheck::Typing;
 use std::alloc::Global;
+
+/// Types the items of a text into a typing that has none yet, or gives the first fault of its tokens, its items'
+/// grammar or their types.
+fn type_items<'a>(alloc: Global, typing: &mut Typing<'a>, text: &'a [u8]) -> Result<(), TextError>
+    requires few { length text.now ≤ size_limit }
+    requires new { IsTypingOf [] typing.old }
+    ensures typed { OnOk result (HasTypedText text.now typing.new) }
+    ensures fault { IfErr result (λ e. IsRefusedText e text.now) }
+{
+    let mut cursor = Cursor::of(text);
+    let items = read_items(alloc, typing, &mut cursor)?;
+    if let Some(fault) = cursor.fault(items.next) {
+        return Err(TextError::Fault(Fault::Syntax(fault)));
+    }
+    match items.outlook {
+        Outlook::Typed => Ok(()),
+        Outlook::Mistyped(fault) => Err(TextError::Fault(Fault::Types(fault))),
+        Outlook::Ungrammatical(fault) => Err(TextError::Fault(Fault::Syntax(fault))),
+    }
+}
 
 /// The typed program of a text, or the first fault of its tokens, its items' grammar or their types.
 fn typed_program(alloc: Global, text: &[u8]) -> Result<Program<Raw>, TextError>
@@ -26,15 +49,10 @@ fn typed_program(alloc: Global, text: &[u8]) -> Result<Program<Raw>, TextError>
     ensures bounded { IfOk result (λ p. item_count (program_over raw_of p) ≤ size_limit) }
     ensures fault { IfErr result (λ e. IsRefusedText e text.now) }
 {
-    let mut cursor = Cursor::of(text);
-    let items = read_items(alloc, &mut cursor)?;
-    if let Some(fault) = cursor.fault(items.next) {
-        return Err(TextError::Fault(Fault::Syntax(fault)));
-    }
-    match items.outlook {
-        Outlook::Typed(typing) => Ok(typing.finish(alloc)?),
-        Outlook::Mistyped(fault) => Err(TextError::Fault(Fault::Types(fault))),
-        Outlook::Ungrammatical(fault) => Err(TextError::Fault(Fault::Syntax(fault))),
+    let mut typing = Typing::new(alloc);
+    match type_items(alloc, &mut typing, text) {
+        Ok(()) => Ok(typing.finish(alloc)?),
+        Err(error) => Err(error),
     }
 }
 

@@ -5,7 +5,9 @@ ghost use Rattle.ap_defs.specs.Permutations.{name_eq};
 ghost use Rattle.ap_defs.specs.Renaming.{IsBelow, rename_name, rename_term};
 ghost use Rattle.ap_defs.specs.Substitution.{Binding, occurs, under};
 ghost use Rattle.ap_defs.specs.Terms.{susp, term_of};
+ghost use Rattle.ap_defs.specs.declared.terms.Var.{Var as variable};
 ghost use Rattle.ap_defs.specs.Unification.{bind, unless_occurs};
+ghost use Rattle.ap_store.specs.Likes.{HaveSameVars};
 ghost use Rattle.ap_store.specs.Marks.{HasNoVars};
 ghost use Rattle.ap_store.specs.Triples.{IsPrefixOf};
 ghost use Rattle.ap_store.specs.Views.{bindings_of, kinds, present, versions};
@@ -24,6 +26,7 @@ use ap_equations::work::bind_plain;
 use ap_perm::joining::numbered;
 use ap_rules::pairs::Work;
 use ap_store::heads::head_key;
+use ap_store::occurrences::Occurrence;
 use ap_store::store::Store;
 use std::alloc::Global;
 
@@ -52,14 +55,17 @@ fn bind_part<'a>(
     work: &mut Work<'a>,
     x: Var,
     p: Plain<'a>,
-    is_ground: bool,
+    found: Occurrence,
 ) -> Result<Turn, Memory>
     requires made { x.num < (present store.old).next }
     requires unbound { IsUnbound (bindings_of store.old) x }
     requires part { IsBelow (present store.old).next (plain_term p) }
     requires absent { occurs x (under (bindings_of store.old) (plain_term p)) ≡ false }
-    requires no_vars { is_ground ≡ true →
+    requires no_vars { found ≡ Occurrence.Ground →
         HasNoVars (under (bindings_of store.old) (plain_term p)) }
+    requires like { (w : variable) → found ≡ Occurrence.Like w → HaveSameVars
+        (under (bindings_of store.old) (plain_term p))
+        (under (bindings_of store.old) (susp [] w)) }
     ensures turn { IfOk result (λ turn. (f : Ahead) → IsRuleFor turn f (bindings_of store.old)
         (bindings_of store.new) (bind x (under (bindings_of store.old) (plain_term p.entry)))) }
     ensures below { IfOk result (λ turn. (f : Ahead) →
@@ -70,7 +76,7 @@ fn bind_part<'a>(
     ensures past { IsPrefixOf (versions store.old) (versions store.new) }
     ensures kinds { kinds store.new ≡ kinds store.old }
 {
-    bind_plain(alloc, store, work, x, p, is_ground)?;
+    bind_plain(alloc, store, work, x, p, found)?;
     Ok(Turn::Done)
 }
 
@@ -101,14 +107,14 @@ fn bind_unless_occurs<'a>(
     ensures kinds { kinds store.new ≡ kinds store.old }
 {
     if is_ground {
-        return bind_part(alloc, store, work, x, p, true);
+        return bind_part(alloc, store, work, x, p, Occurrence::Ground);
     }
     let c = p.closure(alloc);
     let found = store.occurs(alloc, x, &c)?;
     if found.occurs() {
         return Ok(Turn::Clash);
     }
-    bind_part(alloc, store, work, x, p, found.is_ground())
+    bind_part(alloc, store, work, x, p, found)
 }
 
 /// Of two different variables the one with the greater number is bound.
@@ -138,9 +144,9 @@ fn variables<'a>(
     if x.num == y.num {
         Ok(Turn::Done)
     } else if x.num < y.num {
-        bind_part(alloc, store, work, y, pair.left, false)
+        bind_part(alloc, store, work, y, pair.left, Occurrence::Apart)
     } else {
-        bind_part(alloc, store, work, x, pair.right, false)
+        bind_part(alloc, store, work, x, pair.right, Occurrence::Apart)
     }
 }
 

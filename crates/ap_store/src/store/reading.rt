@@ -2,25 +2,27 @@
 
 use super::Store;
 use crate::bare::Bare;
-use crate::held::{all_of, held_of};
+use crate::held::{held_of, set_of};
+use crate::likes::like_of;
 use crate::slots::Found;
 use crate::tables::{bound_at, found_at};
 use ap_defs::goals::Kind;
 use ap_defs::memory::Memory;
 use ap_defs::terms::{Cond, Var};
 use ap_perm::closures::{Closure, Lent};
-use ap_perm::sets::make_set;
 use std::alloc::Global;
 
 impl<'a> Store<'a> {
-    ghost use Rattle.std.specs.Prelude.{◌≡◌, ◌<◌, [], false, true, Some, None, IfOk, MatchOption, slice_get};
+    ghost use Rattle.std.specs.Prelude.{◌≡◌, ◌<◌, [], false, true, Some, None, IfOk, MatchOption, is_some, slice_get};
     ghost use Rattle.ap_defs.specs.Substitution.{occurs, under};
     ghost use Rattle.ap_defs.specs.Terms.{susp};
     ghost use Rattle.ap_defs.specs.Types.{kind_of};
     ghost use Rattle.ap_perm.specs.Closures.{lent_term};
     ghost use Rattle.ap_store.specs.Changes.{has_on};
     ghost use Rattle.ap_store.specs.Founds.{IsBareOf, IsWhatIsFound, is_ground_found};
+    ghost use Rattle.ap_store.specs.Likes.{HaveSameVars};
     ghost use Rattle.ap_store.specs.Marks.{HasNoVars};
+    ghost use Rattle.ap_defs.specs.declared.terms.Var.{Var as variable};
     ghost use Rattle.ap_store.specs.Views.{bindings_of, kinds, meaning_in, present, raw_bound};
 
     /// The closure to which a variable is bound, or none where it is unbound. It takes no memory.
@@ -53,6 +55,19 @@ impl<'a> Store<'a> {
         }
     }
 
+    /// Another variable, if one is kept beside a bound one. Both stand for terms with the same variables. It takes
+    /// no memory.
+    pub(crate) fn like(&self, x: Var) -> Option<Var>
+        ensures { (w : variable) → result ≡ Some w → is_some (raw_bound self.now x) ≡ true →
+            HaveSameVars (under (bindings_of self.now) (susp [] x))
+            (under (bindings_of self.now) (susp [] w)) }
+    {
+        match like_of(&self.likes, x.num) {
+            None => None,
+            Some(num) => Some(Var { num: num as u64 }),
+        }
+    }
+
     /// Whether there are conditions on a variable. It takes no memory.
     pub fn has_conditions(&self, x: Var) -> bool
         ensures { result ≡ has_on x (present self.now).conditions }
@@ -73,9 +88,7 @@ impl<'a> Store<'a> {
     pub fn conds(&self, alloc: Global) -> Result<Vec<Cond>, Memory>
         ensures { IfOk result (λ conds. conds.items ≡ (present self.now).conditions) }
     {
-        let mut conds = all_of(alloc, &self.held)?;
-        make_set(&mut conds);
-        Ok(conds)
+        set_of(alloc, &self.held)
     }
 
     /// The next number. It takes no memory.

@@ -24,7 +24,7 @@ pub bind_var-requires-clause-absent : goal.bind_var-requires-clause-absent
 bind_var-requires-clause-absent c = ap (λ (t : NominalTerm). occurs c.args.x (under (bindings_of c.args.store.now) t)) c.closure.ensures ∙ c.requires.absent
 
 pub bind_var-requires-clause-no_vars : goal.bind_var-requires-clause-no_vars
-bind_var-requires-clause-no_vars c = λ h. subst (λ (t : NominalTerm). HasNoVars (under (bindings_of c.args.store.now) t)) (sym c.closure.ensures) (c.requires.no_vars h)
+bind_var-requires-clause-no_vars c = λ h. subst (λ (t : NominalTerm). HasNoVars (under (bindings_of c.args.store.now) t)) (sym c.closure.ensures) (c.requires.no_vars (c.is_ground.ensures.0 h))
 
 pub returns-then-has_conditions-clause-bindings : goal.returns-then-has_conditions-clause-bindings
 returns-then-has_conditions-clause-bindings c =

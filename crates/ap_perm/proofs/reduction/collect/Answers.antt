@@ -5,7 +5,7 @@ use Rattle.ap_defs.specs.Renaming.{rename_name, rename_swap, rename_term, rename
 use Rattle.ap_defs.specs.Terms.{abs, app, pair, susp, term_of}
 use Rattle.ap_defs.specs.declared.terms.Cond.{Cond}
 use Rattle.ap_perm.specs.Reduction.{added, pending_term}
-use Rattle.ap_perm.proofs.PendingLemmas.{added_none, all_left, fewer, fewer_part, kept, last_refuted, one_added, problem_of, two_added}
+use Rattle.ap_perm.proofs.PendingLemmas.{added_none, all_left, fewer, fewer_part, inner_of, inner_visits, kept, last_refuted, one_added, problem_of, two_added}
 use Rattle.ap_perm.proofs.StepLemmas.{abs_added, abs_problem, app_problem, bound_problem, name_added, name_refuted, pair_problem, problem, unbound_problem, unit_added}
 use Rattle.ap_defs.specs.declared.terms.Name.{Name}
 use Rattle.ap_perm.proofs.VisitLemmas.{visits, visits_abs, visits_app, visits_bound, visits_pair, visits_some}
@@ -43,14 +43,14 @@ collecting-smaller-in-Continue-branch-3 g c =
     ap (λ z. rename_term c.in-Some.p.base (term_of z)) c.in-Pair.is
     ∙ ap₂ (λ u v. pair (rename_term c.in-Some.p.base (term_of u)) (rename_term c.in-Some.p.base (term_of v))) (sym c.deref.ensures) (sym c.deref-in-Pair.ensures) in
     let rest = c.push-in-Pair-2.new.self.items in
-    let qs = c.within.result ∷ c.within-in-Pair.result ∷ [] in
+    let qs = c.innermost.result ∷ c.innermost-in-Pair.result ∷ [] in
     let f : rest ≡ c.pop.new.self.items ++ qs =
-    c.in_ok-push-in-Pair-2.ensures.items ∙ ap (λ xs. xs ++ c.within-in-Pair.result ∷ []) c.in_ok-push-in-Pair.ensures.items ∙ append_assoc c.pop.new.self.items (c.within.result ∷ []) (c.within-in-Pair.result ∷ []) in
-    let a : visits (g.L.Look.bound c.args.look.now) (g.L.Look.rank c.args.look.now) (pending_term c.within.result) + (visits (g.L.Look.bound c.args.look.now) (g.L.Look.rank c.args.look.now) (pending_term c.within-in-Pair.result) + 0) ≡ visits (g.L.Look.bound c.args.look.now) (g.L.Look.rank c.args.look.now) (rename_term c.in-Some.p.base (term_of c.deref.result.now)) + (visits (g.L.Look.bound c.args.look.now) (g.L.Look.rank c.args.look.now) (rename_term c.in-Some.p.base (term_of c.deref-in-Pair.result.now)) + 0) =
-    ap₂ (λ u v. visits (g.L.Look.bound c.args.look.now) (g.L.Look.rank c.args.look.now) u + (visits (g.L.Look.bound c.args.look.now) (g.L.Look.rank c.args.look.now) v + 0)) c.within.ensures.term c.within-in-Pair.ensures.term in
+    c.in_ok-push-in-Pair-2.ensures.items ∙ ap (λ xs. xs ++ c.innermost-in-Pair.result ∷ []) c.in_ok-push-in-Pair.ensures.items ∙ append_assoc c.pop.new.self.items (c.innermost.result ∷ []) (c.innermost-in-Pair.result ∷ []) in
+    let k = inner_visits (g.L.Look.bound c.args.look.now) (g.L.Look.rank c.args.look.now) (g.met.L.Look.ranked c.args.look.now) c.innermost.result c.in-Some.p.name (rename_term c.in-Some.p.base (term_of c.deref.result.now)) c.innermost.ensures.term in
+    let l = inner_visits (g.L.Look.bound c.args.look.now) (g.L.Look.rank c.args.look.now) (g.met.L.Look.ranked c.args.look.now) c.innermost-in-Pair.result c.in-Some.p.name (rename_term c.in-Some.p.base (term_of c.deref-in-Pair.result.now)) c.innermost-in-Pair.ensures.term in
     let b = visits_pair (g.L.Look.bound c.args.look.now) (g.L.Look.rank c.args.look.now) (g.met.L.Look.ranked c.args.look.now) (rename_term c.in-Some.p.base (term_of c.deref.result.now)) (rename_term c.in-Some.p.base (term_of c.deref-in-Pair.result.now)) in
     let d : visits (g.L.Look.bound c.args.look.now) (g.L.Look.rank c.args.look.now) (pending_term c.in-Some.p) ≡ visits (g.L.Look.bound c.args.look.now) (g.L.Look.rank c.args.look.now) (pair (rename_term c.in-Some.p.base (term_of c.deref.result.now)) (rename_term c.in-Some.p.base (term_of c.deref-in-Pair.result.now))) = ap (visits (g.L.Look.bound c.args.look.now) (g.L.Look.rank c.args.look.now)) e in
-    fewer (g.L.Look.bound c.args.look.now) (g.L.Look.rank c.args.look.now) (g.met.L.Look.ranked c.args.look.now) c.pop.new.self.items qs rest c.collecting.left.items c.in-Some.p c.in-Some.ensures.items f (omega (arith, a, b, d))
+    fewer (g.L.Look.bound c.args.look.now) (g.L.Look.rank c.args.look.now) (g.met.L.Look.ranked c.args.look.now) c.pop.new.self.items qs rest c.collecting.left.items c.in-Some.p c.in-Some.ensures.items f (omega (arith, k, l, b, d))
 
 pub collecting-preserved-in-Continue-branch-3 : goal.collecting-preserved-in-Continue-branch-3
 collecting-preserved-in-Continue-branch-3 g c =
@@ -58,32 +58,33 @@ collecting-preserved-in-Continue-branch-3 g c =
     ap (λ z. rename_term c.in-Some.p.base (term_of z)) c.in-Pair.is
     ∙ ap₂ (λ u v. pair (rename_term c.in-Some.p.base (term_of u)) (rename_term c.in-Some.p.base (term_of v))) (sym c.deref.ensures) (sym c.deref-in-Pair.ensures) in
     let rest = c.push-in-Pair-2.new.self.items in
-    let qs = c.within.result ∷ c.within-in-Pair.result ∷ [] in
+    let qs = c.innermost.result ∷ c.innermost-in-Pair.result ∷ [] in
     let f : rest ≡ c.pop.new.self.items ++ qs =
-    c.in_ok-push-in-Pair-2.ensures.items ∙ ap (λ xs. xs ++ c.within-in-Pair.result ∷ []) c.in_ok-push-in-Pair.ensures.items ∙ append_assoc c.pop.new.self.items (c.within.result ∷ []) (c.within-in-Pair.result ∷ []) in
-    let h : problem (g.L.Look.bound c.args.look.now) (g.L.Look.rank c.args.look.now) (g.met.L.Look.ranked c.args.look.now) c.in-Some.p.name (pending_term c.in-Some.p) ≡ both (problem_of (g.L.Look.bound c.args.look.now) (g.L.Look.rank c.args.look.now) (g.met.L.Look.ranked c.args.look.now) c.within.result) (problem_of (g.L.Look.bound c.args.look.now) (g.L.Look.rank c.args.look.now) (g.met.L.Look.ranked c.args.look.now) c.within-in-Pair.result) =
+    c.in_ok-push-in-Pair-2.ensures.items ∙ ap (λ xs. xs ++ c.innermost-in-Pair.result ∷ []) c.in_ok-push-in-Pair.ensures.items ∙ append_assoc c.pop.new.self.items (c.innermost.result ∷ []) (c.innermost-in-Pair.result ∷ []) in
+    let h : problem (g.L.Look.bound c.args.look.now) (g.L.Look.rank c.args.look.now) (g.met.L.Look.ranked c.args.look.now) c.in-Some.p.name (pending_term c.in-Some.p) ≡ both (problem_of (g.L.Look.bound c.args.look.now) (g.L.Look.rank c.args.look.now) (g.met.L.Look.ranked c.args.look.now) c.innermost.result) (problem_of (g.L.Look.bound c.args.look.now) (g.L.Look.rank c.args.look.now) (g.met.L.Look.ranked c.args.look.now) c.innermost-in-Pair.result) =
     pair_problem (g.L.Look.bound c.args.look.now) (g.L.Look.rank c.args.look.now) (g.met.L.Look.ranked c.args.look.now) c.in-Some.p.name (rename_term c.in-Some.p.base (term_of c.deref.result.now)) (rename_term c.in-Some.p.base (term_of c.deref-in-Pair.result.now)) (pending_term c.in-Some.p) e
-    ∙ ap₂ both (ap₂ (problem (g.L.Look.bound c.args.look.now) (g.L.Look.rank c.args.look.now) (g.met.L.Look.ranked c.args.look.now)) (sym c.within.ensures.name) (sym c.within.ensures.term)) (ap₂ (problem (g.L.Look.bound c.args.look.now) (g.L.Look.rank c.args.look.now) (g.met.L.Look.ranked c.args.look.now)) (sym c.within-in-Pair.ensures.name) (sym c.within-in-Pair.ensures.term)) in
+    ∙ ap₂ both (inner_of (g.L.Look.bound c.args.look.now) (g.L.Look.rank c.args.look.now) (g.met.L.Look.ranked c.args.look.now) c.innermost.result c.in-Some.p.name (rename_term c.in-Some.p.base (term_of c.deref.result.now)) c.innermost.ensures.name c.innermost.ensures.term) (inner_of (g.L.Look.bound c.args.look.now) (g.L.Look.rank c.args.look.now) (g.met.L.Look.ranked c.args.look.now) c.innermost-in-Pair.result c.in-Some.p.name (rename_term c.in-Some.p.base (term_of c.deref-in-Pair.result.now)) c.innermost-in-Pair.ensures.name c.innermost-in-Pair.ensures.term) in
     kept (g.L.Look.bound c.args.look.now) (g.L.Look.rank c.args.look.now) (g.met.L.Look.ranked c.args.look.now) c.pop.new.self.items qs rest c.collecting.left.items c.in-Some.p c.in-Some.ensures.items f c.collecting.conds.items c.collecting.conds.items _
-    (two_added (g.L.Look.bound c.args.look.now) (g.L.Look.rank c.args.look.now) (g.met.L.Look.ranked c.args.look.now) c.in-Some.p c.within.result c.within-in-Pair.result c.collecting.conds.items h) c.collecting.invariant
+    (two_added (g.L.Look.bound c.args.look.now) (g.L.Look.rank c.args.look.now) (g.met.L.Look.ranked c.args.look.now) c.in-Some.p c.innermost.result c.innermost-in-Pair.result c.collecting.conds.items h) c.collecting.invariant
 
 pub collecting-smaller-in-Continue-branch-4 : goal.collecting-smaller-in-Continue-branch-4
 collecting-smaller-in-Continue-branch-4 g c =
     let e : (pending_term c.in-Some.p) ≡ app c.in-App.field-0 (rename_term c.in-Some.p.base (term_of c.deref-in-App.result.now)) =
     ap (λ z. rename_term c.in-Some.p.base (term_of z)) c.in-App.is ∙ ap (λ u. app c.in-App.field-0 (rename_term c.in-Some.p.base (term_of u))) (sym c.deref-in-App.ensures) in
-    let w = c.within-in-App.result in
+    let w = c.innermost-in-App.result in
     let rest = c.push-in-App.new.self.items in
     let b = visits_app (g.L.Look.bound c.args.look.now) (g.L.Look.rank c.args.look.now) (g.met.L.Look.ranked c.args.look.now) c.in-App.field-0 (rename_term c.in-Some.p.base (term_of c.deref-in-App.result.now)) in
     let d : visits (g.L.Look.bound c.args.look.now) (g.L.Look.rank c.args.look.now) (pending_term c.in-Some.p) ≡ visits (g.L.Look.bound c.args.look.now) (g.L.Look.rank c.args.look.now) (app c.in-App.field-0 (rename_term c.in-Some.p.base (term_of c.deref-in-App.result.now))) = ap (visits (g.L.Look.bound c.args.look.now) (g.L.Look.rank c.args.look.now)) e in
-    fewer_part (g.L.Look.bound c.args.look.now) (g.L.Look.rank c.args.look.now) (g.met.L.Look.ranked c.args.look.now) c.pop.new.self.items (w ∷ []) rest c.collecting.left.items c.in-Some.p c.in-Some.ensures.items c.in_ok-push-in-App.ensures.items w (rename_term c.in-Some.p.base (term_of c.deref-in-App.result.now)) refl c.within-in-App.ensures.term (omega (arith, b, d))
+    fewer_part (g.L.Look.bound c.args.look.now) (g.L.Look.rank c.args.look.now) (g.met.L.Look.ranked c.args.look.now) c.pop.new.self.items (w ∷ []) rest c.collecting.left.items c.in-Some.p c.in-Some.ensures.items c.in_ok-push-in-App.ensures.items w (pending_term w) refl refl
+    (let k = inner_visits (g.L.Look.bound c.args.look.now) (g.L.Look.rank c.args.look.now) (g.met.L.Look.ranked c.args.look.now) w c.in-Some.p.name (rename_term c.in-Some.p.base (term_of c.deref-in-App.result.now)) c.innermost-in-App.ensures.term in omega (arith, k, b, d))
 
 pub collecting-preserved-in-Continue-branch-4 : goal.collecting-preserved-in-Continue-branch-4
 collecting-preserved-in-Continue-branch-4 g c =
     let e : (pending_term c.in-Some.p) ≡ app c.in-App.field-0 (rename_term c.in-Some.p.base (term_of c.deref-in-App.result.now)) =
     ap (λ z. rename_term c.in-Some.p.base (term_of z)) c.in-App.is ∙ ap (λ u. app c.in-App.field-0 (rename_term c.in-Some.p.base (term_of u))) (sym c.deref-in-App.ensures) in
-    let w = c.within-in-App.result in
+    let w = c.innermost-in-App.result in
     let rest = c.push-in-App.new.self.items in
-    let h : problem (g.L.Look.bound c.args.look.now) (g.L.Look.rank c.args.look.now) (g.met.L.Look.ranked c.args.look.now) c.in-Some.p.name (pending_term c.in-Some.p) ≡ problem_of (g.L.Look.bound c.args.look.now) (g.L.Look.rank c.args.look.now) (g.met.L.Look.ranked c.args.look.now) w = app_problem (g.L.Look.bound c.args.look.now) (g.L.Look.rank c.args.look.now) (g.met.L.Look.ranked c.args.look.now) c.in-Some.p.name c.in-App.field-0 (rename_term c.in-Some.p.base (term_of c.deref-in-App.result.now)) (pending_term c.in-Some.p) e ∙ ap₂ (problem (g.L.Look.bound c.args.look.now) (g.L.Look.rank c.args.look.now) (g.met.L.Look.ranked c.args.look.now)) (sym c.within-in-App.ensures.name) (sym c.within-in-App.ensures.term) in
+    let h : problem (g.L.Look.bound c.args.look.now) (g.L.Look.rank c.args.look.now) (g.met.L.Look.ranked c.args.look.now) c.in-Some.p.name (pending_term c.in-Some.p) ≡ problem_of (g.L.Look.bound c.args.look.now) (g.L.Look.rank c.args.look.now) (g.met.L.Look.ranked c.args.look.now) w = app_problem (g.L.Look.bound c.args.look.now) (g.L.Look.rank c.args.look.now) (g.met.L.Look.ranked c.args.look.now) c.in-Some.p.name c.in-App.field-0 (rename_term c.in-Some.p.base (term_of c.deref-in-App.result.now)) (pending_term c.in-Some.p) e ∙ inner_of (g.L.Look.bound c.args.look.now) (g.L.Look.rank c.args.look.now) (g.met.L.Look.ranked c.args.look.now) w c.in-Some.p.name (rename_term c.in-Some.p.base (term_of c.deref-in-App.result.now)) c.innermost-in-App.ensures.name c.innermost-in-App.ensures.term in
     kept (g.L.Look.bound c.args.look.now) (g.L.Look.rank c.args.look.now) (g.met.L.Look.ranked c.args.look.now) c.pop.new.self.items (w ∷ []) rest c.collecting.left.items c.in-Some.p c.in-Some.ensures.items c.in_ok-push-in-App.ensures.items c.collecting.conds.items c.collecting.conds.items _
     (one_added (g.L.Look.bound c.args.look.now) (g.L.Look.rank c.args.look.now) (g.met.L.Look.ranked c.args.look.now) c.in-Some.p w c.collecting.conds.items h) c.collecting.invariant
 
@@ -92,11 +93,12 @@ collecting-smaller-in-Continue-branch-5 g c =
     let B : Name = record { sort = c.in-Abs.sort; num = c.in-Abs.num } in
     let e : (pending_term c.in-Some.p) ≡ abs (rename_name c.in-Some.p.base B) (rename_term c.in-Some.p.base (term_of c.deref-then-ne.result.now)) =
     ap (λ z. rename_term c.in-Some.p.base (term_of z)) c.in-Abs.is ∙ ap (λ u. abs (rename_name c.in-Some.p.base B) (rename_term c.in-Some.p.base (term_of u))) (sym c.deref-then-ne.ensures) in
-    let w = c.within-then-ne.result in
+    let w = c.innermost-then-ne.result in
     let rest = c.push-then-ne.new.self.items in
     let b = visits_abs (g.L.Look.bound c.args.look.now) (g.L.Look.rank c.args.look.now) (g.met.L.Look.ranked c.args.look.now) (rename_name c.in-Some.p.base B) (rename_term c.in-Some.p.base (term_of c.deref-then-ne.result.now)) in
     let d : visits (g.L.Look.bound c.args.look.now) (g.L.Look.rank c.args.look.now) (pending_term c.in-Some.p) ≡ visits (g.L.Look.bound c.args.look.now) (g.L.Look.rank c.args.look.now) (abs (rename_name c.in-Some.p.base B) (rename_term c.in-Some.p.base (term_of c.deref-then-ne.result.now))) = ap (visits (g.L.Look.bound c.args.look.now) (g.L.Look.rank c.args.look.now)) e in
-    fewer_part (g.L.Look.bound c.args.look.now) (g.L.Look.rank c.args.look.now) (g.met.L.Look.ranked c.args.look.now) c.pop.new.self.items (w ∷ []) rest c.collecting.left.items c.in-Some.p c.in-Some.ensures.items c.in_ok-push-in-Abs.ensures.items w (rename_term c.in-Some.p.base (term_of c.deref-then-ne.result.now)) refl c.within-then-ne.ensures.term (omega (arith, b, d))
+    fewer_part (g.L.Look.bound c.args.look.now) (g.L.Look.rank c.args.look.now) (g.met.L.Look.ranked c.args.look.now) c.pop.new.self.items (w ∷ []) rest c.collecting.left.items c.in-Some.p c.in-Some.ensures.items c.in_ok-push-in-Abs.ensures.items w (pending_term w) refl refl
+    (let k = inner_visits (g.L.Look.bound c.args.look.now) (g.L.Look.rank c.args.look.now) (g.met.L.Look.ranked c.args.look.now) w c.in-Some.p.name (rename_term c.in-Some.p.base (term_of c.deref-then-ne.result.now)) c.innermost-then-ne.ensures.term in omega (arith, k, b, d))
 
 pub collecting-preserved-in-Continue-branch-5 : goal.collecting-preserved-in-Continue-branch-5
 unfolding name_eq
@@ -105,9 +107,9 @@ collecting-preserved-in-Continue-branch-5 g c =
     let i : name_eq c.in-Some.p.name (rename_name c.in-Some.p.base B) ≡ false = search rules in
     let e : (pending_term c.in-Some.p) ≡ abs (rename_name c.in-Some.p.base B) (rename_term c.in-Some.p.base (term_of c.deref-then-ne.result.now)) =
     ap (λ z. rename_term c.in-Some.p.base (term_of z)) c.in-Abs.is ∙ ap (λ u. abs (rename_name c.in-Some.p.base B) (rename_term c.in-Some.p.base (term_of u))) (sym c.deref-then-ne.ensures) in
-    let w = c.within-then-ne.result in
+    let w = c.innermost-then-ne.result in
     let rest = c.push-then-ne.new.self.items in
-    let h : problem (g.L.Look.bound c.args.look.now) (g.L.Look.rank c.args.look.now) (g.met.L.Look.ranked c.args.look.now) c.in-Some.p.name (pending_term c.in-Some.p) ≡ problem_of (g.L.Look.bound c.args.look.now) (g.L.Look.rank c.args.look.now) (g.met.L.Look.ranked c.args.look.now) w = abs_problem (g.L.Look.bound c.args.look.now) (g.L.Look.rank c.args.look.now) (g.met.L.Look.ranked c.args.look.now) c.in-Some.p.name (rename_name c.in-Some.p.base B) (rename_term c.in-Some.p.base (term_of c.deref-then-ne.result.now)) (pending_term c.in-Some.p) e i ∙ ap₂ (problem (g.L.Look.bound c.args.look.now) (g.L.Look.rank c.args.look.now) (g.met.L.Look.ranked c.args.look.now)) (sym c.within-then-ne.ensures.name) (sym c.within-then-ne.ensures.term) in
+    let h : problem (g.L.Look.bound c.args.look.now) (g.L.Look.rank c.args.look.now) (g.met.L.Look.ranked c.args.look.now) c.in-Some.p.name (pending_term c.in-Some.p) ≡ problem_of (g.L.Look.bound c.args.look.now) (g.L.Look.rank c.args.look.now) (g.met.L.Look.ranked c.args.look.now) w = abs_problem (g.L.Look.bound c.args.look.now) (g.L.Look.rank c.args.look.now) (g.met.L.Look.ranked c.args.look.now) c.in-Some.p.name (rename_name c.in-Some.p.base B) (rename_term c.in-Some.p.base (term_of c.deref-then-ne.result.now)) (pending_term c.in-Some.p) e i ∙ inner_of (g.L.Look.bound c.args.look.now) (g.L.Look.rank c.args.look.now) (g.met.L.Look.ranked c.args.look.now) w c.in-Some.p.name (rename_term c.in-Some.p.base (term_of c.deref-then-ne.result.now)) c.innermost-then-ne.ensures.name c.innermost-then-ne.ensures.term in
     kept (g.L.Look.bound c.args.look.now) (g.L.Look.rank c.args.look.now) (g.met.L.Look.ranked c.args.look.now) c.pop.new.self.items (w ∷ []) rest c.collecting.left.items c.in-Some.p c.in-Some.ensures.items c.in_ok-push-in-Abs.ensures.items c.collecting.conds.items c.collecting.conds.items _
     (one_added (g.L.Look.bound c.args.look.now) (g.L.Look.rank c.args.look.now) (g.met.L.Look.ranked c.args.look.now) c.in-Some.p w c.collecting.conds.items h) c.collecting.invariant
 

@@ -1,4 +1,4 @@
-use Rattle.std.proofs.Common.{◌≡◌, ◌≤◌, ◌<◌, ◌^◌, ◌+◌, sym, subst, arith}
+use Rattle.std.proofs.Common.{◌<◌, ◌+◌, sym, subst, arith}
 use Rattle.ap_defs.specs.Renaming.{IsBelow, rename_term, rename_var}
 use Rattle.ap_defs.specs.Terms.{act_term, term_of}
 use Rattle.ap_defs.specs.declared.terms.Term.{Term}

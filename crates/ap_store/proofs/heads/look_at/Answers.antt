@@ -1,11 +1,10 @@
-use Rattle.std.proofs.Common.{◌≡◌, ◌≤◌, ◌<◌, ◌+◌, ◌^◌, ◌∙◌, [], ℕ, List, sym, ap, map, refl, subst, arith}
-use Rattle.std.specs.Prelude.{None, Option, Some}
+use Rattle.std.proofs.Common.{◌<◌, ◌+◌, sym, map, subst, arith}
+use Rattle.std.specs.Prelude.{Some}
 use Rattle.ap_defs.specs.Renaming.{IsBelow, rename_swap, rename_term, rename_var}
-use Rattle.ap_defs.specs.Substitution.{under}
 use Rattle.ap_defs.specs.Terms.{term_of}
 use Rattle.ap_defs.specs.declared.terms.Term.{Term}
-use Rattle.ap_store.specs.Heads.{IsHeadLook, IsHeadVar}
-use Rattle.ap_store.specs.Views.{bindings_of, present, rank}
+use Rattle.ap_store.specs.Heads.{IsHeadLook}
+use Rattle.ap_store.specs.Views.{present, rank}
 use Rattle.ap_store.proofs.FollowLemmas.{bound_look, unbound_under, unbound_var}
 use Rattle.ap_store.proofs.heads.look_at.Goals as goal
 use Rattle.ap_store.specs.declared.heads.HeadLook.TheVariants as looks

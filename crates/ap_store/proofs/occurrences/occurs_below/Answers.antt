@@ -12,7 +12,8 @@ use Rattle.ap_store.specs.Founds.{IsSight, bare_term, does_occur, occurs_in}
 use Rattle.ap_store.specs.Views.{bindings_of, raw_bound}
 use Rattle.ap_store.specs.declared.occurrences.Sight.TheVariants as sights
 use Rattle.ap_store.proofs.FollowLemmas.{both_less, bound_less, bound_occurs, unbound_occurs, visits_in}
-use Rattle.ap_store.proofs.WaitingLemmas.{apart_here, comes_next, ground_here, leaf_here, none_left, not_found, occurs_in_any, part_has, shut_if_ground, one_waits, some_visits, visits_in_all, visits_last}
+use Rattle.ap_store.proofs.OccurrenceLemmas.{not_found, occurs_not_like, shut_if_ground, without_like}
+use Rattle.ap_store.proofs.WaitingLemmas.{apart_here, comes_next, ground_here, leaf_here, none_left, occurs_in_any, part_has, one_waits, some_visits, visits_in_all, visits_last}
 use Rattle.ap_store.proofs.occurrences.occurs_below.Goals as goal
 use Rattle.ap_store.proofs.occurrences.occurs_below.Goals.{in-Susp+in-Ground, in-Susp+in-Unbound+else-x-y, in-Unit, in-Unit-2}
 
@@ -90,6 +91,12 @@ returns-then-x-y-clause-found c =
 
 pub returns-then-x-y-clause-no_vars : goal.returns-then-x-y-clause-no_vars
 returns-then-x-y-clause-no_vars c = λ e. absurd (true≢false (ap does_occur e))
+
+pub returns-then-x-y-clause-like : goal.returns-then-x-y-clause-like
+returns-then-x-y-clause-like c = λ w e. occurs_not_like w e
+
+pub returns-in_default-clause-like : goal.returns-in_default-clause-like
+returns-in_default-clause-like c = λ w e. without_like c.match-rest.is_open w (sym c.without.ensures ∙ e)
 
 pub returns-in_default-clause-found : goal.returns-in_default-clause-found
 returns-in_default-clause-found c =

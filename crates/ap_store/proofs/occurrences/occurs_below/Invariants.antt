@@ -1,11 +1,11 @@
 -- A variable occurs in the whole where it occurs in the part in hand or in one that waits; once an unbound one was seen, this is kept of the
 -- variable that is sought alone.
-use Rattle.std.proofs.Common.{◌≡◌, ◌<◌, ◌+◌, ◌^◌, ◌||◌, true, map}
+use Rattle.std.proofs.Common.{◌≡◌, ◌<◌, ◌+◌, ◌^◌, ◌||◌, true}
 use Rattle.ap_defs.specs.Renaming.{IsBelow, rename_term}
 use Rattle.ap_defs.specs.Substitution.{occurs, under}
 use Rattle.ap_defs.specs.Terms.{term_of}
 use Rattle.ap_defs.specs.declared.terms.Var.{Var}
-use Rattle.ap_store.specs.Founds.{bare_term, occurs_in}
+use Rattle.ap_store.specs.Founds.{occurs_in}
 use Rattle.ap_store.specs.Views.{bindings_of}
 use Rattle.ap_store.proofs.FollowLemmas.{visits_in}
 use Rattle.ap_store.proofs.WaitingLemmas.{occurs_in_any, visits_in_all}

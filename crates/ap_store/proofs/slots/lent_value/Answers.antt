@@ -1,7 +1,5 @@
 use Rattle.std.proofs.Common.{ap, sym, ◌∙◌}
 use Rattle.std.specs.Prelude.{Some}
-use Rattle.ap_defs.specs.Renaming.{rename_term}
-use Rattle.ap_defs.specs.Terms.{term_of}
 use Rattle.ap_store.specs.Slots.{value_term}
 use Rattle.ap_theory.proofs.TermLemmas.{act_term_none}
 use Rattle.ap_store.proofs.slots.lent_value.Goals as goal

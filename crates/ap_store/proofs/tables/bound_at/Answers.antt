@@ -1,9 +1,7 @@
-use Rattle.std.proofs.Common.{◌<◌, ◌≤◌, MatchOption, length, sym, ap, ◌∙◌, subst, arith}
+use Rattle.std.proofs.Common.{◌<◌, ◌≤◌, MatchOption, length, sym, subst, arith}
 use Rattle.std.specs.Prelude.{◌≡◌, None, Option, Some}
 use Rattle.ap_defs.specs.Terms.{NominalTerm}
 use Rattle.ap_perm.specs.Closures.{lent_term}
-use Rattle.ap_store.specs.Slots.{IsKeptBelow, value_term}
-use Rattle.ap_store.specs.declared.slots.Slot.{Slot}
 use Rattle.ap_store.proofs.ReachLemmas.{kept_at}
 use Rattle.ap_store.proofs.TableLemmas.{bound_in_beyond, bound_in_get}
 use Rattle.ap_store.proofs.tables.bound_at.Goals as goal

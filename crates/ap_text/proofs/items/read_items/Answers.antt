@@ -26,7 +26,7 @@ returns-then-are_none-clause-outlook c =
     let left = lexemes_left c.reading.cursor in
     let none = sym c.deref.ensures.value ∙ c.are_none.ensures.none c.if-are_none.true in
     let empty : left ≡ [] = front_none left (sym c.in_ok-tokens.ensures.tokens ∙ ap lexemes none) in
-    subst (λ ts. IsOutlook (lexemes_left c.args.cursor.now) ts c.reading.next c.reading.outlook) empty c.reading.invariant.outlook
+    subst (λ ts. IsOutlook (lexemes_left c.args.cursor.now) ts c.reading.next c.reading.typing c.reading.outlook) empty c.reading.invariant.outlook
 
 pub with_tokens-requires-clause-some : goal.with_tokens-requires-clause-some
 with_tokens-requires-clause-some c = subst (λ ts. 0 < length ts) c.deref.ensures.value (c.are_none.ensures.some c.if-are_none.false)
@@ -35,7 +35,7 @@ pub overflow_cast-dots : goal.overflow_cast-dots
 overflow_cast-dots c =
     let all = lexemes_left c.args.cursor.now in
     let left = lexemes_left c.reading.cursor in
-    let few : c.reading.next + count_by is_dot left ≤ size_limit + 1 = next_few all left c.reading.next c.reading.invariant.dots c.requires in
+    let few : c.reading.next + count_by is_dot left ≤ size_limit + 1 = next_few all left c.reading.next c.reading.invariant.dots c.requires.few in
     let dots : c.count_dots-dots.result ≡ count_by is_dot (item_front left) = c.count_dots-dots.ensures.value ∙ ap (λ ts. count_by is_dot (lexemes ts)) c.deref-in-reading.ensures.value ∙ ap (count_by is_dot) c.in_ok-tokens.ensures.tokens in
     omega (arith, few, dots, dots_split left)
 
@@ -43,14 +43,14 @@ pub with_tokens-requires-clause-outlook : goal.with_tokens-requires-clause-outlo
 with_tokens-requires-clause-outlook c =
     let all = lexemes_left c.args.cursor.now in
     let left = lexemes_left c.reading.cursor in
-    let few : c.reading.next + count_by is_dot left ≤ size_limit + 1 = next_few all left c.reading.next c.reading.invariant.dots c.requires in
+    let few : c.reading.next + count_by is_dot left ≤ size_limit + 1 = next_few all left c.reading.next c.reading.invariant.dots c.requires.few in
     (all, left, c.in_ok-tokens.ensures.tokens, omega (arith, few), c.reading.invariant.outlook)
 
 pub overflow_add-next : goal.overflow_add-next
 overflow_add-next c =
     let all = lexemes_left c.args.cursor.now in
     let left = lexemes_left c.reading.cursor in
-    let few : c.reading.next + count_by is_dot left ≤ size_limit + 1 = next_few all left c.reading.next c.reading.invariant.dots c.requires in
+    let few : c.reading.next + count_by is_dot left ≤ size_limit + 1 = next_few all left c.reading.next c.reading.invariant.dots c.requires.few in
     let dots : c.count_dots-dots.result ≡ count_by is_dot (item_front left) = c.count_dots-dots.ensures.value ∙ ap (λ ts. count_by is_dot (lexemes ts)) c.deref-in-reading.ensures.value ∙ ap (count_by is_dot) c.in_ok-tokens.ensures.tokens in
     omega (arith, few, dots, dots_split left)
 
@@ -70,11 +70,12 @@ reading-preserved c =
     let old = c.reading.invariant in
     let number : c.count_dots-dots.result ≡ count_by is_dot (lexemes c.in_ok-tokens.tokens.items) = c.count_dots-dots.ensures.value ∙ ap (λ ts. count_by is_dot (lexemes ts)) c.deref-in-reading.ensures.value in
     let dots : c.count_dots-dots.result ≡ count_by is_dot (item_front left) = number ∙ ap (count_by is_dot) c.in_ok-tokens.ensures.tokens in
+    let after = c.with_tokens.new.typing in
     let outlook = c.in_ok-outlook.ensures all left c.in_ok-tokens.ensures.tokens old.outlook in
     record {
       whole = c.in_ok-tokens.ensures.whole ∙ old.whole;
       text = c.in_ok-tokens.ensures.text ∙ old.text;
       dots = dots_on all left (lexemes_left c.item_tokens.new.cursor) c.reading.next c.count_dots-dots.result old.dots dots c.in_ok-tokens.ensures.left;
-      outlook = subst (λ more. IsOutlook all more (c.reading.next + c.count_dots-dots.result) c.in_ok-outlook.outlook) (sym c.in_ok-tokens.ensures.left)
-          (subst (λ n. IsOutlook all (after_item left) (c.reading.next + n) c.in_ok-outlook.outlook) (sym number) outlook);
+      outlook = subst (λ more. IsOutlook all more (c.reading.next + c.count_dots-dots.result) after c.in_ok-outlook.outlook) (sym c.in_ok-tokens.ensures.left)
+          (subst (λ n. IsOutlook all (after_item left) (c.reading.next + n) after c.in_ok-outlook.outlook) (sym number) outlook);
     }

@@ -10,7 +10,7 @@ invariant-reading l = record {
   whole : l.cursor.whole ≡ l.fn.cursor.whole;
   text : l.cursor.text ≡ l.fn.cursor.text;
   dots : l.next + count_by is_dot (lexemes_left l.cursor) ≡ item_after (lexemes_left l.fn.cursor);
-  outlook : IsOutlook (lexemes_left l.fn.cursor) (lexemes_left l.cursor) l.next l.outlook;
+  outlook : IsOutlook (lexemes_left l.fn.cursor) (lexemes_left l.cursor) l.next l.typing l.outlook;
 }
 
 abbrev pub decreases-reading : goal.decreases-reading

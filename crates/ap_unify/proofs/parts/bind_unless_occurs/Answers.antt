@@ -1,7 +1,9 @@
-use Rattle.std.proofs.Common.{ap, map, subst, sym, ◌∙◌}
+use Rattle.std.proofs.Common.{[], ap, map, subst, sym, ◌∙◌}
 use Rattle.ap_defs.specs.Substitution.{occurs, under}
-use Rattle.ap_defs.specs.Terms.{NominalTerm}
+use Rattle.ap_defs.specs.Terms.{NominalTerm, susp}
 use Rattle.ap_defs.specs.Unification.{Rule, apply_rule}
+use Rattle.ap_store.proofs.OccurrenceLemmas.{ground_not_like}
+use Rattle.ap_store.specs.Likes.{HaveSameVars}
 use Rattle.ap_store.specs.Marks.{HasNoVars}
 use Rattle.ap_store.specs.Views.{bindings_of}
 use Rattle.ap_unify.proofs.PartLemmas.{bind_if_absent, clash_if_occurs}
@@ -34,7 +36,18 @@ bind_part-requires-2-clause-absent c =
 
 pub bind_part-requires-2-clause-no_vars : goal.bind_part-requires-2-clause-no_vars
 bind_part-requires-2-clause-no_vars c =
-    λ h. subst (λ (u : NominalTerm). HasNoVars (under (bindings_of c.args.store.now) u)) c.closure-c.ensures (c.in_ok-found.ensures.no_vars (c.is_ground.ensures.0 h))
+    λ h. subst (λ (u : NominalTerm). HasNoVars (under (bindings_of c.args.store.now) u)) c.closure-c.ensures (c.in_ok-found.ensures.no_vars h)
+
+pub bind_part-requires-2-clause-like : goal.bind_part-requires-2-clause-like
+bind_part-requires-2-clause-like c =
+    let s = bindings_of c.args.store.now in
+    λ w h. subst (λ (u : NominalTerm). HaveSameVars (under s u) (under s (susp [] w))) c.closure-c.ensures (c.in_ok-found.ensures.like w h)
+
+pub bind_part-requires-clause-no_vars : goal.bind_part-requires-clause-no_vars
+bind_part-requires-clause-no_vars c = λ h. c.requires.no_vars c.if-is_ground.true
+
+pub bind_part-requires-clause-like : goal.bind_part-requires-clause-like
+bind_part-requires-clause-like c = λ w h. absurd (ground_not_like w h)
 
 pub returns-clause-turn : goal.returns-clause-turn
 returns-clause-turn c =

@@ -1,6 +1,7 @@
-use Rattle.std.proofs.Common.{◌≡◌, ◌<◌, false, true≢false, subst, sym, arith}
+use Rattle.std.proofs.Common.{◌≡◌, ◌<◌, false, subst, sym, arith}
 use Rattle.std.proofs.lemmas.Bool.Decides.{nat_tests}
 use Rattle.ap_defs.specs.Freshness.{var_eq}
+use Rattle.ap_store.proofs.OccurrenceLemmas.{apart_not_ground, apart_not_like}
 use Rattle.ap_store.specs.Views.{bindings_of}
 use Rattle.ap_unify.proofs.PartLemmas.{carried_drop, free_absent, left_older, one_variable, right_older}
 use Rattle.ap_rules.proofs.WorkLemmas.{if_ok}
@@ -21,10 +22,16 @@ bind_part-requires-else-x-y-2-clause-absent c =
     free_absent (bindings_of c.args.store.now) c.args.x c.args.y (plain_term c.args.pair.right) c.requires.right c.requires.right_unbound e
 
 pub bind_part-requires-clause-no_vars : goal.bind_part-requires-clause-no_vars
-bind_part-requires-clause-no_vars c = λ h. absurd (true≢false (sym h))
+bind_part-requires-clause-no_vars c = λ h. absurd (apart_not_ground h)
+
+pub bind_part-requires-clause-like : goal.bind_part-requires-clause-like
+bind_part-requires-clause-like c = λ w h. absurd (apart_not_like w h)
 
 pub bind_part-requires-else-x-y-2-clause-no_vars : goal.bind_part-requires-else-x-y-2-clause-no_vars
-bind_part-requires-else-x-y-2-clause-no_vars c = λ h. absurd (true≢false (sym h))
+bind_part-requires-else-x-y-2-clause-no_vars c = λ h. absurd (apart_not_ground h)
+
+pub bind_part-requires-else-x-y-2-clause-like : goal.bind_part-requires-else-x-y-2-clause-like
+bind_part-requires-else-x-y-2-clause-like c = λ w h. absurd (apart_not_like w h)
 
 pub returns-then-x-y-clause-turn : goal.returns-then-x-y-clause-turn
 returns-then-x-y-clause-turn c =

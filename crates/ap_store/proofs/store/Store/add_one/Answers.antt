@@ -1,6 +1,7 @@
 use Rattle.std.proofs.Common.{◌≡◌, ◌++◌, [], ◌∷◌, List, ap, ap₂, sym, subst, ◌∙◌}
 use Rattle.ap_perm.specs.Lookups.{IsRanked}
 use Rattle.ap_store.specs.Changes.{Added, Change, empty}
+use Rattle.ap_store.specs.Likes.{AreLikes, like_in}
 use Rattle.ap_store.specs.Marks.{AreGroundMarks, ground_in}
 use Rattle.ap_store.specs.Slots.{AreHeld, IsStored, changes_in}
 use Rattle.ap_store.specs.Trails.{no_rank, nothing_bound, rank_after, raw_after}
@@ -10,6 +11,7 @@ use Rattle.ap_store.specs.declared.changes.Entry.TheVariants as entries
 use Rattle.ap_store.specs.declared.changes.Noted.{Noted}
 use Rattle.ap_store.specs.declared.changes.Noted.TheVariants as notes
 use Rattle.ap_store.proofs.HeldLemmas.{held_added, held_kept}
+use Rattle.ap_store.proofs.LikeLemmas.{likes_noted}
 use Rattle.ap_store.proofs.MarkLemmas.{marked_noted}
 use Rattle.ap_store.proofs.SoundLemmas.{ranked_after}
 use Rattle.ap_store.proofs.StoredLemmas.{noted_changes, stored_added}
@@ -28,6 +30,7 @@ invariant_of-self-in-Break-branch-3 c =
       stored = subst (λ (ms : List Noted). IsStored s.table.items es ms s.reach) f (subst (λ (fs : List Entry). IsStored s.table.items fs s.noted.items s.reach) e s.stored);
       holds = held_kept s.held.items c.hold.new.held.items (changes_in s.table.items es ns) (subst (AreHeld s.held.items) g s.holds) c.hold.ensures.length c.in_err-hold.ensures.unchanged;
       marked = subst (λ (cs : List Change). AreGroundMarks (ground_in s.table.items) cs empty) g s.marked;
+      likened = subst (λ (cs : List Change). AreLikes (like_in s.likes.items) cs empty) g s.likened;
       ranked = subst (λ (cs : List Change). IsRanked (raw_after cs nothing_bound) (rank_after cs empty no_rank)) g s.ranked;
     }
 
@@ -42,7 +45,7 @@ invariant_of-self-2 c =
     let g = noted_changes s.table.items s.trail.items ts s.noted.items ms (notes.Added d) s.stored.5 e f in
     let kept = stored_added s.table.items s.trail.items ts s.noted.items ms s.reach d s.stored c.requires e f in
     let held = held_added s.held.items c.hold.new.held.items (changes s) (changes_in s.table.items ts ms) d s.holds c.hold.ensures.length c.in_ok-hold.ensures.held g in
-    record { stored = kept; holds = held; marked = marked_noted s.table.items s.table.items (changes s) (changes_in s.table.items ts ms) s.marked (notes.Added d) g; ranked = ranked_after (changes_in s.table.items ts ms) kept.0 }
+    record { stored = kept; holds = held; marked = marked_noted s.table.items s.table.items (changes s) (changes_in s.table.items ts ms) s.marked (notes.Added d) g; likened = likes_noted (like_in s.likes.items) (changes s) (changes_in s.table.items ts ms) s.likened (notes.Added d) g; ranked = ranked_after (changes_in s.table.items ts ms) kept.0 }
 
 pub returns-clause-present : goal.returns-clause-present
 returns-clause-present c =

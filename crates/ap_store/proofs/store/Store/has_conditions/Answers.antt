@@ -1,6 +1,6 @@
-use Rattle.std.proofs.Common.{◌≡◌, ℕ, List, length, ap, ◌∙◌}
+use Rattle.std.proofs.Common.{◌≡◌, List, length, ap, ◌∙◌}
 use Rattle.std.specs.Global.{Global}
-use Rattle.std.specs.Prelude.{◌==◌, Bool, Vec, not}
+use Rattle.std.specs.Prelude.{◌==◌, Vec, not}
 use Rattle.ap_defs.specs.declared.terms.Cond.{Cond}
 use Rattle.ap_store.specs.Slots.{held_in}
 use Rattle.ap_store.specs.Views.{changes}

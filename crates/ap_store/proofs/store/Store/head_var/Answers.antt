@@ -1,4 +1,4 @@
-use Rattle.std.proofs.Common.{◌≡◌, ◌++◌, ◌∙◌, sym, ap}
+use Rattle.std.proofs.Common.{◌++◌, ◌∙◌, sym, ap}
 use Rattle.ap_defs.specs.Renaming.{rename_term}
 use Rattle.ap_defs.specs.Substitution.{under}
 use Rattle.ap_defs.specs.Terms.{act_term, term_of}

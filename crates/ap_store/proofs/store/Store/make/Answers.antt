@@ -1,5 +1,6 @@
 use Rattle.std.proofs.Common.{◌≡◌, ◌<◌, ◌+◌, ◌^◌, ◌++◌, [], ◌∷◌, List, length, ap, subst, sym, ◌∙◌, arith}
 use Rattle.ap_store.specs.Changes.{Made, empty}
+use Rattle.ap_store.specs.Likes.{like_in}
 use Rattle.ap_store.specs.Marks.{ground_in}
 use Rattle.ap_store.specs.Slots.{AreKeptBelow, bound_in, changes_in}
 use Rattle.ap_store.specs.Views.{changes, versions}
@@ -7,6 +8,7 @@ use Rattle.ap_store.specs.declared.changes.Entry.{Entry}
 use Rattle.ap_store.specs.declared.changes.Entry.TheVariants as entries
 use Rattle.ap_store.specs.declared.slots.Slot.{Slot}
 use Rattle.ap_store.proofs.HeldLemmas.{held_made}
+use Rattle.ap_store.proofs.LikeLemmas.{likes_made}
 use Rattle.ap_store.proofs.MarkLemmas.{marked_made}
 use Rattle.ap_store.proofs.SoundLemmas.{ranked_after}
 use Rattle.ap_store.proofs.StoredLemmas.{made_changes, stored_made}
@@ -27,7 +29,7 @@ invariant_of-self-2 c =
     let m : length us < 2 ^ 32 = omega (arith, l, c.len-first.ensures) in
     let kept = stored_made s.table.items us s.trail.items ts s.noted.items s.reach n s.stored l f k m e in
     let g = made_changes s.table.items us s.trail.items ts s.noted.items n f e in
-    record { stored = kept; holds = held_made s.held.items (changes s) (changes_in us ts s.noted.items) n s.holds g; marked = marked_made s.table.items us (changes s) (changes_in us ts s.noted.items) s.marked n g marks; ranked = ranked_after (changes_in us ts s.noted.items) kept.0 }
+    record { stored = kept; holds = held_made s.held.items (changes s) (changes_in us ts s.noted.items) n s.holds g; marked = marked_made s.table.items us (changes s) (changes_in us ts s.noted.items) s.marked n g marks; likened = likes_made (like_in s.likes.items) (changes s) (changes_in us ts s.noted.items) s.likened n g; ranked = ranked_after (changes_in us ts s.noted.items) kept.0 }
 
 pub returns-clause-present : goal.returns-clause-present
 returns-clause-present c =

@@ -1,0 +1,49 @@
+-- What is found of a variable in a term tells what was not found.
+use Rattle.std.proofs.Common.{◌≡◌, Bool, true, false, true≢false, refl, sym, ap}
+use Rattle.std.specs.Prelude.{if◌then◌else◌}
+use Rattle.ap_defs.specs.declared.terms.Var.{Var}
+use Rattle.ap_store.specs.Founds.{does_occur}
+use Rattle.ap_store.specs.declared.occurrences.Occurrence.{Occurrence}
+use Rattle.ap_store.specs.declared.occurrences.Occurrence.TheVariants as occurrences
+
+pub not_found : (is_open : Bool) → does_occur (if is_open then occurrences.Apart else occurrences.Ground) ≡ false
+not_found true = refl
+not_found false = refl
+
+abbrev is_shut : Occurrence → Bool
+is_shut occurrences.Occurs = false
+is_shut occurrences.Apart = false
+is_shut occurrences.Ground = true
+is_shut (occurrences.Like w) = false
+
+abbrev is_like : Occurrence → Bool
+is_like occurrences.Occurs = false
+is_like occurrences.Apart = false
+is_like occurrences.Ground = false
+is_like (occurrences.Like w) = true
+
+pub apart_not_ground : occurrences.Apart ≡ occurrences.Ground → ⊥
+apart_not_ground e = true≢false (sym (ap is_shut e))
+
+pub like_not_ground : (w : Var) → occurrences.Like w ≡ occurrences.Ground → ⊥
+like_not_ground w e = true≢false (sym (ap is_shut e))
+
+pub occurs_not_ground : occurrences.Occurs ≡ occurrences.Ground → ⊥
+occurs_not_ground e = true≢false (sym (ap is_shut e))
+
+pub ground_not_like : (w : Var) → occurrences.Ground ≡ occurrences.Like w → ⊥
+ground_not_like w e = true≢false (sym (ap is_like e))
+
+pub apart_not_like : (w : Var) → occurrences.Apart ≡ occurrences.Like w → ⊥
+apart_not_like w e = true≢false (sym (ap is_like e))
+
+pub occurs_not_like : (w : Var) → occurrences.Occurs ≡ occurrences.Like w → ⊥
+occurs_not_like w e = true≢false (sym (ap is_like e))
+
+pub shut_if_ground : (is_open : Bool) → (if is_open then occurrences.Apart else occurrences.Ground) ≡ occurrences.Ground → is_open ≡ false
+shut_if_ground false e = refl
+shut_if_ground true e = absurd (apart_not_ground e)
+
+pub without_like : (is_open : Bool) (w : Var) → (if is_open then occurrences.Apart else occurrences.Ground) ≡ occurrences.Like w → ⊥
+without_like true w e = apart_not_like w e
+without_like false w e = ground_not_like w e
