@@ -25,8 +25,7 @@ fn check_items<'a>(alloc: Global, items: Vec<Item<'a>>) -> Result<Typing<'a>, Ty
     ensures err { IfErr result (λ e. IsRefusedByTypes e (items_of_text items.entry.items)) }
 {
     let mut typing = Typing::new(alloc);
-    let mut rest = items.into_iter();
-    'typing: while let Some(item) = rest.next() {
+    for item in items {
         match typing.add(alloc, item) {
             Ok(()) => {}
             Err(error) => return Err(error),

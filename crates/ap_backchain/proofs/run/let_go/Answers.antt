@@ -7,11 +7,14 @@ use Rattle.ap_backchain.proofs.run.let_go.Goals as goal
 none : (n : ℕ) → (n == 0) ≡ true → n ≡ 0
 none n e = grind (arith, nat_tests)
 
-empty : (c : goal.Then-is_empty) → c.args.points.now.items ≡ []
-empty c = sym c.as_slice.ensures.value ∙ nil_from_length c.as_slice.result.now (none (length c.as_slice.result.now) (sym c.is_empty.ensures ∙ c.if-is_empty.true))
-
 pub returns-then-is_empty-clause-pending : goal.returns-then-is_empty-clause-pending
-returns-then-is_empty-clause-pending c = (no_points c.args.machine.now c.let_go_cells.new.machine c.args.points.now (empty c)).0
+returns-then-is_empty-clause-pending c =
+    let empty : c.args.points.now.items ≡ [] =
+    sym c.as_slice.ensures.value ∙ nil_from_length c.as_slice.result.now (none (length c.as_slice.result.now) (sym c.is_empty.ensures ∙ c.if-is_empty.true)) in
+    (no_points c.args.machine.now c.let_go_cells.new.machine c.args.points.now empty).0
 
 pub returns-then-is_empty-clause-points : goal.returns-then-is_empty-clause-points
-returns-then-is_empty-clause-points c = (no_points c.args.machine.now c.let_go_cells.new.machine c.args.points.now (empty c)).1
+returns-then-is_empty-clause-points c =
+    let empty : c.args.points.now.items ≡ [] =
+    sym c.as_slice.ensures.value ∙ nil_from_length c.as_slice.result.now (none (length c.as_slice.result.now) (sym c.is_empty.ensures ∙ c.if-is_empty.true)) in
+    (no_points c.args.machine.now c.let_go_cells.new.machine c.args.points.now empty).1

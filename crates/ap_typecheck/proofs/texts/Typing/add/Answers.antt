@@ -8,12 +8,12 @@ use Rattle.ap_typecheck.proofs.texts.Typing.add.Goals as goal
 pub check_item-requires-clause-small : goal.check_item-requires-clause-small
 check_item-requires-clause-small c = typing_small c.args.self.now c.requires.0 c.requires.2 c.requires.1
 
-pub returns-in-Err-clause-fault : goal.returns-in-Err-clause-fault
-returns-in-Err-clause-fault c = λ is more t.
+pub returns-in-Err-check_item-clause-fault : goal.returns-in-Err-check_item-clause-fault
+returns-in-Err-check_item-clause-fault c = λ is more t.
     subst (λ e. IsRefusedByTypes e (is ++ item_of c.args.item ∷ more)) (sym c.text_error.ensures)
-    (typing_refused c.in-Err.refusal c.args.self.now is more (item_of c.args.item) _ t refl c.in-Err.ensures.err)
+    (typing_refused c.in-Err-check_item.refusal c.args.self.now is more (item_of c.args.item) _ t refl c.in-Err-check_item.ensures.err)
 
 pub returns-clause-made : goal.returns-clause-made
 returns-clause-made c = λ is t.
     let new : Typing = record { state = c.check_item.new.state; words = c.add_form.new.words; items = c.args.self.now.items + 1 } in
-    typing_on c.args.self.now new is (item_of c.args.item) t c.in-Ok.ensures.flawless c.in-Ok.ensures.made c.in-Ok-add_form.ensures refl c.in-Ok.ensures.kept
+    typing_on c.args.self.now new is (item_of c.args.item) t c.in-Ok-check_item.ensures.flawless c.in-Ok-check_item.ensures.made c.in-Ok.ensures refl c.in-Ok-check_item.ensures.kept
