@@ -125,36 +125,6 @@ fn report_query<'a, R: Threads + Wait + Sync, G: Gate>(
     }
 }
 
-/// The report on each query of a program, whose words are known, to a depth, one after the other: the lines of its
-/// outputs up to the last answer that is wanted. One worker searches each in the memory of an earlier search.
-fn report_queries<R: Threads + Wait + Sync, G: Gate>(
-    rt: &R,
-    alloc: Global,
-    gate: &G,
-    depth: Depth,
-    workers: Workers,
-    limit: Limit,
-    taken: &Taken<'_>,
-    program: &Index<'_>,
-) -> Result<Vec<u8>, Memory>
-    requires words { IsTaken program.now.words taken.now }
-    ensures { IfOk result (λ v. v.items ≡ limited_report (program_of program.now) depth limit) }
-{
-    let count = query_count(program);
-    let mut bytes = Vec::new(alloc);
-    let mut room = None;
-    for place in 0..count {
-        let problem = Problem {
-            program: &*program,
-            query: place + 1,
-            depth: depth.get(),
-        };
-        let report = report_query(rt, alloc, gate, workers, limit, taken, &problem, &mut room)?;
-        bytes.extend_from_slice(&report)?;
-    }
-    Ok(bytes)
-}
-
 /// The report on each query of the program, to a depth, one after the other: the lines of its outputs up
 /// to the last answer that is wanted.
 pub(crate) fn report_program<R: Threads + Wait + Sync, G: Gate>(
@@ -168,6 +138,18 @@ pub(crate) fn report_program<R: Threads + Wait + Sync, G: Gate>(
 ) -> Result<Vec<u8>, Memory>
     ensures { IfOk result (λ v. v.items ≡ limited_report (program_of program.now) depth limit) }
 {
+    let count = query_count(program);
     let taken = taken_in(alloc, program.restricted())?;
-    report_queries(rt, alloc, gate, depth, workers, limit, &taken, program)
+    let mut bytes = Vec::new(alloc);
+    let mut room = None;
+    for place in 0..count {
+        let problem = Problem {
+            program: &*program,
+            query: place + 1,
+            depth: depth.get(),
+        };
+        let report = report_query(rt, alloc, gate, workers, limit, &taken, &problem, &mut room)?;
+        bytes.extend_from_slice(&report)?;
+    }
+    Ok(bytes)
 }

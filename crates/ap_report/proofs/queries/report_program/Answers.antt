@@ -2,7 +2,7 @@ use Rattle.std.proofs.Common.{◌≡◌, ◌+◌, ◌-◌, rules, subst}
 use Rattle.ap_defs.specs.Goals.{program_of}
 use Rattle.ap_report.specs.Queries.{query_report}
 use Rattle.ap_report.proofs.QueryReports.{one_more}
-use Rattle.ap_report.proofs.queries.report_queries.Goals as goal
+use Rattle.ap_report.proofs.queries.report_program.Goals as goal
 
 pub loop-place-preserved : goal.loop-place-preserved
 loop-place-preserved g c =

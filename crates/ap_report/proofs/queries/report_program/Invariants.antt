@@ -1,7 +1,7 @@
 use Rattle.std.proofs.Common.{◌≡◌, ◌+◌, ◌++◌, drop}
 use Rattle.ap_defs.specs.Goals.{program_of}
 use Rattle.ap_report.specs.Queries.{limited_from, limited_report}
-use Rattle.ap_report.proofs.queries.report_queries.Given as goal
+use Rattle.ap_report.proofs.queries.report_program.Given as goal
 
 abbrev pub invariant-loop-place : goal.invariant-loop-place
 invariant-loop-place g l =
