@@ -15,7 +15,7 @@ use Rattle.ap_derive.specs.Nodes.{selected_node, nodes_before}
 use Rattle.ap_derive.specs.Solved.{rest_of}
 use Rattle.ap_derive.proofs.DerivedLemmas.{answer_derived, derived_checks, path_derivation, path_nodes, path_solved, same_some, typed_at}
 use Rattle.ap_derive.proofs.derivations.derive_along.Goals as goal
-use Rattle.ap_derive.proofs.derivations.derive_along.Goals.{After-drop-machine-11}
+use Rattle.ap_derive.proofs.derivations.derive_along.Goals.{After-drop-machine-12}
 
 pub select_along-requires-clause-clauses : goal.select_along-requires-clause-clauses
 select_along-requires-clause-clauses c =
@@ -43,7 +43,7 @@ assemble-requires c =
           to.state (map selected_node c.in_ok-nodes.nodes.items) (rest_of c.args.path.now to) c.in_ok-nodes.ensures,
     )
 
-is_derived : (c : After-drop-machine-11) → (d : Derived) → ((e : NominalDerivation) → map selected_node c.in_ok-nodes.nodes.items ≡ nodes_before e [] → derived d ≡ derivation_in (position_of c.select_along.new.machine).state e)
+is_derived : (c : After-drop-machine-12) → (d : Derived) → ((e : NominalDerivation) → map selected_node c.in_ok-nodes.nodes.items ≡ nodes_before e [] → derived d ≡ derivation_in (position_of c.select_along.new.machine).state e)
     → (q : NominalQuery) (r : Traced) → slice_get (queries_in c.args.p.now) (c.args.p.now.query - 1) ≡ Some q
     → traced_query (clauses_in c.args.p.now) c.args.p.now.depth q c.args.path.now ≡ Some r → derived d ≡ derivation_in r.state r.derivation
 is_derived c d h x r k leads =

@@ -1,4 +1,4 @@
-use Rattle.std.proofs.Common.{subst}
+use Rattle.std.proofs.Common.{◌≡◌, subst}
 use Rattle.ap_trees.specs.Symbols.{syms}
 use Rattle.ap_trees.specs.Trees.{item_of}
 use Rattle.ap_syntax.specs.Reading.{item_or_fault, GivesOneOf}
