@@ -2,7 +2,8 @@
 
 use crate::nested::nest_shown;
 use crate::reading::{items_of, tokens_of};
-use crate::trees::{push_form, push_tree, push_type};
+use crate::spelling::Spelling;
+use crate::trees::{put_form, put_tree, put_type};
 use crate::typed::typed_shown;
 use crate::written::part_shown;
 use ap_defs::faults::SyntaxFault;
@@ -31,57 +32,60 @@ pub enum Kind {
 }
 
 /// A token as its kind, its line, its span and its text.
-fn push_token(alloc: Global, out: &mut String, token: &Token<'_>) -> Result<(), AllocError> {
-    let kind = match token.kind {
-        TokenKind::Var => 'V',
-        TokenKind::Ident => 'I',
-        TokenKind::Reserved => 'R',
-        TokenKind::Sign => 'S',
-    };
-    let (line, start, end, text) = (token.line, token.start, token.end, token.text);
-    out.push_str(format!(in alloc; "{kind}{line}:{start}-{end} {text} ")?.as_str())?;
-    Ok(())
+fn put_token(out: &mut Spelling, token: &Token<'_>) {
+    out.put(match token.kind {
+        TokenKind::Var => "V",
+        TokenKind::Ident => "I",
+        TokenKind::Reserved => "R",
+        TokenKind::Sign => "S",
+    });
+    out.put_number(token.line, ":");
+    out.put_number(token.start, "-");
+    out.put_number(token.end, " ");
+    out.put(token.text);
+    out.put(" ");
 }
 
 fn tokens_shown(alloc: Global, text: &str) -> Result<String, SynError> {
     let tokens = tokens_of(alloc, text.as_bytes())?;
-    let mut out = String::new(alloc);
+    let mut out = Spelling::new(alloc);
     for token in &tokens {
-        push_token(alloc, &mut out, token)?;
+        put_token(&mut out, token);
     }
-    Ok(out)
+    Ok(out.whole()?)
 }
 
-/// An item as its line and what it says.
-fn push_item(alloc: Global, out: &mut String, item: &Item<'_>) -> Result<(), AllocError> {
-    let line = item.line;
-    out.push_str(format!(in alloc; "{line} ")?.as_str())?;
-    push_form(alloc, out, &item.form)?;
-    out.push_str(";")?;
-    Ok(())
-}
-
-/// The items of a text.
+/// The items of a text, each as its line and what it says.
 pub fn items_shown(alloc: Global, text: &str) -> Result<String, SynError> {
     let tokens = tokens_of(alloc, text.as_bytes())?;
     let items = items_of(alloc, &tokens)?;
-    let mut out = String::new(alloc);
+    let mut out = Spelling::new(alloc);
     for item in &items {
-        push_item(alloc, &mut out, item)?;
+        out.put_number(item.line, " ");
+        put_form(&mut out, &item.form);
+        out.put(";");
     }
-    Ok(out)
+    Ok(out.whole()?)
+}
+
+fn spelled_tree(alloc: Global, tree: &Tree<'_>) -> Result<String, AllocError> {
+    let mut out = Spelling::new(alloc);
+    put_tree(&mut out, tree);
+    out.whole()
 }
 
 fn tree_shown(alloc: Global, read: Result<Tree<'_>, ReadError>) -> Result<String, AllocError> {
     match read {
-        Ok(tree) => {
-            let mut out = String::new(alloc);
-            push_tree(alloc, &mut out, &tree)?;
-            Ok(out)
-        }
+        Ok(tree) => spelled_tree(alloc, &tree),
         Err(ReadError::Grammar) => "none".to_string(alloc),
         Err(ReadError::Memory) => Err(AllocError),
     }
+}
+
+fn spelled_type(alloc: Global, tree: &TypeTree<'_>) -> Result<String, AllocError> {
+    let mut out = Spelling::new(alloc);
+    put_type(&mut out, tree);
+    out.whole()
 }
 
 fn type_tree_shown(
@@ -89,11 +93,7 @@ fn type_tree_shown(
     read: Result<TypeTree<'_>, ReadError>,
 ) -> Result<String, AllocError> {
     match read {
-        Ok(tree) => {
-            let mut out = String::new(alloc);
-            push_type(alloc, &mut out, &tree)?;
-            Ok(out)
-        }
+        Ok(tree) => spelled_type(alloc, &tree),
         Err(ReadError::Grammar) => "none".to_string(alloc),
         Err(ReadError::Memory) => Err(AllocError),
     }
