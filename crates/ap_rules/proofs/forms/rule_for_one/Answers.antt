@@ -6,7 +6,7 @@ use Rattle.ap_defs.specs.Unification.{rule, unless_occurs}
 use Rattle.ap_store.specs.Views.{meaning_in, present}
 use Rattle.ap_rules.proofs.SuspensionLemmas.{rule_binds_left, rule_binds_right}
 use Rattle.ap_rules.proofs.WorkLemmas.{if_ok}
-use Rattle.ap_rules.proofs.moves.rule_for_one.Goals as goal
+use Rattle.ap_rules.proofs.forms.rule_for_one.Goals as goal
 
 pub bind_unless_occurs-requires-clause-unbound : goal.bind_unless_occurs-requires-clause-unbound
 bind_unless_occurs-requires-clause-unbound c = c.requires.head.0
