@@ -15,11 +15,5 @@ pub mod Barred
 pub mod Writing
 pub mod Walking
 pub mod Tables
-pub mod Picks
-pub mod Choices
-pub mod ChoiceRounds
-pub mod Wants
-pub mod Pickers
-pub mod StatementsOnPicks
 pub mod Closed
 pub mod StatementsOnInhabited

@@ -1,0 +1,4 @@
+pub mod FlatLemmas
+pub mod UnionLemmas
+pub mod PermLemmas
+pub mod DifferingLemmas
