@@ -18,7 +18,6 @@ pub mod JoinLemmas
 pub mod FillLemmas
 pub mod WalkLemmas
 pub mod OrderLemmas
-pub mod WritingLemmas
 pub mod SettledLemmas
 pub mod LeastRuleLemmas
 pub mod LeastLemmas

@@ -12,7 +12,7 @@ pub mod Joining
 pub mod Loading
 pub mod Needed
 pub mod Barred
-pub mod Writing
+pub mod Entries
 pub mod Walking
 pub mod Tables
 pub mod Closed

@@ -2,6 +2,7 @@
 #![tactic(auto)]
 
 pub mod answers;
+pub mod entries;
 pub mod equations;
 pub mod errors;
 pub mod holding;
@@ -15,4 +16,3 @@ pub mod parts;
 mod rounds;
 pub mod solved;
 mod walking;
-pub mod writing;

@@ -2,3 +2,4 @@ pub mod FlatLemmas
 pub mod UnionLemmas
 pub mod PermLemmas
 pub mod DifferingLemmas
+pub mod WritingLemmas

@@ -9,3 +9,5 @@ pub mod ground;
 pub mod perm;
 pub mod renaming;
 pub mod shown;
+pub mod solutions;
+mod writing;

@@ -1,6 +1,6 @@
 //! What is shown of an answer, as a value of its own.
 
-ghost use Rattle.std.specs.Prelude.{◌≡◌, ◌≤◌, ℕ, length, map, IfOk};
+ghost use Rattle.std.specs.Prelude.{◌≡◌, ◌≤◌, length, map, IfOk};
 ghost use Rattle.ap_defs.specs.Types.{locals_of};
 ghost use Rattle.ap_defs.specs.Goals.{program_of};
 ghost use Rattle.ap_defs.specs.Answers.{answer_of};

@@ -4,7 +4,7 @@ use Rattle.ap_defs.specs.Types.{TypeShape, shape_of}
 use Rattle.ap_types.specs.Equations.{Filling, equation_of, IsSolution, IsShapeInstance, GivesNames}
 use Rattle.ap_types.specs.Triangular.{shapes_of_nodes, assignment_of}
 use Rattle.ap_types.proofs.SettledLemmas.{length_values}
-use Rattle.ap_types.proofs.equations.solve.Goals as goal
+use Rattle.ap_values.proofs.solutions.solve.Goals as goal
 
 pub returns-clause-in_order : goal.returns-clause-in_order
 returns-clause-in_order c =

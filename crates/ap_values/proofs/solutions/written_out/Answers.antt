@@ -4,7 +4,7 @@ use Rattle.ap_defs.specs.Types.{shape_of}
 use Rattle.ap_types.specs.declared.nodes.Node.{Node}
 use Rattle.ap_types.specs.Triangular.{shapes_of_nodes, value_of, values_from}
 use Rattle.ap_types.proofs.SettledLemmas.{values_more}
-use Rattle.ap_types.proofs.solved.written_out.Goals as goal
+use Rattle.ap_values.proofs.solutions.written_out.Goals as goal
 
 pub loop-x-preserved : goal.loop-x-preserved
 loop-x-preserved c =

@@ -1,20 +1,12 @@
 -- A shape that is written out of a table, where a filling says what stands for each place.
 use Rattle.std.specs.Prelude.{◌≡◌, ◌<◌, ℕ, ◌+◌, ◌*◌, List, [], ◌∷◌}
-use Rattle.ap_defs.specs.Types.{TypeShape, shape_of, hole, pair, list, abs}
-use Rattle.ap_types.specs.declared.nodes.Node.{Node}
-use Rattle.ap_types.specs.declared.nodes.Node.TheVariants as nodes
-use Rattle.ap_types.specs.declared.writing.Layer.{Layer}
-use Rattle.ap_types.specs.declared.writing.Layer.TheVariants as layers
-use Rattle.ap_types.specs.declared.writing.Next.{Next}
-use Rattle.ap_types.specs.declared.writing.Next.TheVariants as nexts
-use Rattle.ap_types.specs.Equations.{Filling, filled}
+use Rattle.ap_defs.specs.Types.{TypeShape, shape_of, pair, list, abs}
+use Rattle.ap_values.specs.declared.writing.Layer.{Layer}
+use Rattle.ap_values.specs.declared.writing.Layer.TheVariants as layers
+use Rattle.ap_values.specs.declared.writing.Next.{Next}
+use Rattle.ap_values.specs.declared.writing.Next.TheVariants as nexts
+use Rattle.ap_types.specs.Equations.{Filling}
 use Rattle.ap_types.specs.Solving.{size}
-use Rattle.ap_types.specs.Triangular.{layer_of}
-
--- The entry stands for the place, and is no place unless that is open.
-pub record IsEntryOf (f : Filling) (x : ℕ) (n : Node) : Type 0 where
-  pub stands : f x ≡ filled f (layer_of n)
-  pub open_place : (y : ℕ) → n ≡ nodes.Place y → f y ≡ hole y
 
 -- a shape in a layer
 abbrev pub shape_in : Filling → Layer → TypeShape → TypeShape

@@ -1,8 +1,8 @@
 use Rattle.std.proofs.Common.{◌∙◌, sym, ap}
-use Rattle.ap_types.specs.declared.writing.Next.{Next}
+use Rattle.ap_values.specs.declared.writing.Next.{Next}
 use Rattle.ap_types.specs.Triangular.{shapes_of_nodes, value_of}
-use Rattle.ap_types.specs.Writing.{shape_within, shape_next}
-use Rattle.ap_types.proofs.writing.value_in.Goals as goal
+use Rattle.ap_values.specs.Writing.{shape_within, shape_next}
+use Rattle.ap_values.proofs.writing.value_in.Goals as goal
 
 pub writing-preserved-in-Place : goal.writing-preserved-in-Place
 writing-preserved-in-Place c =

@@ -3,12 +3,13 @@ use Rattle.std.proofs.Common.{◌≡◌, ◌<◌, ◌+◌, ◌*◌, ◌∙◌, �
 use Rattle.ap_defs.specs.declared.terms.Shape.{Shape}
 use Rattle.ap_defs.specs.Types.{TypeShape, shape_of, hole, unit, names, base, pair, list, abs}
 use Rattle.ap_types.specs.declared.nodes.Node.TheVariants as nodes
-use Rattle.ap_types.specs.declared.writing.Layer.{Layer}
-use Rattle.ap_types.specs.declared.writing.Layer.TheVariants as layers
-use Rattle.ap_types.specs.declared.writing.Next.TheVariants as nexts
+use Rattle.ap_values.specs.declared.writing.Layer.{Layer}
+use Rattle.ap_values.specs.declared.writing.Layer.TheVariants as layers
+use Rattle.ap_values.specs.declared.writing.Next.TheVariants as nexts
 use Rattle.ap_types.specs.Equations.{Filling}
 use Rattle.ap_types.specs.Solving.{size}
-use Rattle.ap_types.specs.Writing.{IsEntryOf, shape_in, shape_within, work_in, work_within, GoesOn}
+use Rattle.ap_types.specs.Entries.{IsEntryOf}
+use Rattle.ap_values.specs.Writing.{shape_in, shape_within, work_in, work_within, GoesOn}
 
 within_last : (f : Filling) (ls : List Layer) (l : Layer) (t : TypeShape) → shape_within f (ls ++ l ∷ []) t ≡ shape_within f ls (shape_in f l t)
 within_last f [] l t = refl

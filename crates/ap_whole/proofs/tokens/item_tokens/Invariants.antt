@@ -3,7 +3,7 @@ use Rattle.std.specs.Prelude.{false}
 use Rattle.std.specs.List.{list_any}
 use Rattle.ap_lexer.specs.Tokens.{lexemes, is_dot}
 use Rattle.ap_lexer.specs.Cursors.{lexemes_left}
-use Rattle.ap_lexer.proofs.scan.item_tokens.Given as goal
+use Rattle.ap_whole.proofs.tokens.item_tokens.Given as goal
 
 abbrev pub invariant-loop-token : goal.invariant-loop-token
 invariant-loop-token l = record {

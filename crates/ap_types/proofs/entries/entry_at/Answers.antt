@@ -7,7 +7,7 @@ use Rattle.ap_types.specs.Joining.{link}
 use Rattle.ap_types.specs.Triangular.{layer_of, shapes_of_nodes, value_of}
 use Rattle.ap_types.proofs.TableLemmas.{length_table, layer_at}
 use Rattle.ap_types.proofs.SettledLemmas.{open_value, past_value}
-use Rattle.ap_types.proofs.writing.entry_at.Goals as goal
+use Rattle.ap_types.proofs.entries.entry_at.Goals as goal
 
 pub returns-then-x-nodes : goal.returns-then-x-nodes
 returns-then-x-nodes c =

@@ -7,12 +7,13 @@ ghost use Rattle.std.specs.Prelude.{◌≡◌, ℕ, ◌++◌, ◌∷◌, [], IfO
 ghost use Rattle.ap_defs.specs.Types.{shape_of, pair, abs};
 ghost use Rattle.ap_types.specs.Equations.{Filling};
 ghost use Rattle.ap_types.specs.Triangular.{shapes_of_nodes, value_of, IsSettledTable};
-ghost use Rattle.ap_types.specs.Writing.{IsEntryOf, GoesOn};
+ghost use Rattle.ap_types.specs.Entries.{IsEntryOf};
+ghost use Rattle.ap_values.specs.Writing.{GoesOn};
 
-use crate::joining::link_of;
-use crate::nodes::Node;
 use ap_defs::memory::Memory;
 use ap_defs::terms::Shape;
+use ap_types::entries::entry_at;
+use ap_types::nodes::Node;
 use std::alloc::Global;
 
 /// What stands round a part of a shape: the part is the first of two, and the second one is that of a
@@ -31,23 +32,6 @@ pub(crate) enum Layer {
 pub(crate) enum Next {
     Place(usize),
     Made(Shape),
-}
-
-/// The entry that stands for a place, which is itself a place only where that is open.
-pub fn entry_at(nodes: &[Node], x: usize) -> Node
-    requires { IsSettledTable (shapes_of_nodes nodes.now) }
-    ensures { IsEntryOf (value_of (shapes_of_nodes nodes.now)) x result }
-{
-    if x >= nodes.len() {
-        return Node::Place(x);
-    }
-    let mut at = x;
-    let mut next = link_of(nodes, at);
-    'links: while next != at {
-        at = next;
-        next = link_of(nodes, at);
-    }
-    nodes[at]
 }
 
 /// A pair.

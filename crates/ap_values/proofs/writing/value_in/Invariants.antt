@@ -1,8 +1,8 @@
 -- What comes next, within the layers, is the whole.
 use Rattle.std.proofs.Common.{◌≡◌, ◌+◌}
 use Rattle.ap_types.specs.Triangular.{shapes_of_nodes, value_of}
-use Rattle.ap_types.specs.Writing.{shape_within, shape_next, work_within, work_next}
-use Rattle.ap_types.proofs.writing.value_in.Given as goal
+use Rattle.ap_values.specs.Writing.{shape_within, shape_next, work_within, work_next}
+use Rattle.ap_values.proofs.writing.value_in.Given as goal
 
 abbrev pub invariant-writing : goal.invariant-writing
 invariant-writing l =

@@ -5,7 +5,7 @@ use Rattle.std.proofs.lemmas.List.{map-append}
 use Rattle.ap_lexer.specs.Tokens.{lexemes, lexeme, is_dot}
 use Rattle.ap_lexer.specs.Cursors.{lexemes_left}
 use Rattle.ap_lexer.proofs.Fronts.{goes_on, ends, no_end}
-use Rattle.ap_lexer.proofs.scan.item_tokens.Goals as goal
+use Rattle.ap_whole.proofs.tokens.item_tokens.Goals as goal
 
 -- the tokens with the new one
 pushed : (old new : List Token) (t : Token) → new ≡ old ++ t ∷ [] → lexemes new ≡ lexemes old ++ lexeme t ∷ []

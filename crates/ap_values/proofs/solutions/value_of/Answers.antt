@@ -4,7 +4,7 @@ use Rattle.ap_types.specs.Solving.{shape_at}
 use Rattle.ap_types.specs.Triangular.{shapes_of_nodes, value_of, assignment_of}
 use Rattle.ap_types.proofs.TableLemmas.{at_past}
 use Rattle.ap_types.proofs.SettledLemmas.{length_values, value_at, value_as}
-use Rattle.ap_types.proofs.solved.value_of.Goals as goal
+use Rattle.ap_values.proofs.solutions.value_of.Goals as goal
 
 pub returns-then-hole-solved : goal.returns-then-hole-solved
 returns-then-hole-solved c =

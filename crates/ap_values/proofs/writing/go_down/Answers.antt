@@ -1,7 +1,7 @@
 use Rattle.std.proofs.Common.{refl, subst}
-use Rattle.ap_types.specs.Writing.{IsEntryOf}
-use Rattle.ap_types.proofs.WritingLemmas.{made_open, made_unit, made_names, made_base, down_pair, down_list, down_abs}
-use Rattle.ap_types.proofs.writing.go_down.Goals as goal
+use Rattle.ap_types.specs.Entries.{IsEntryOf}
+use Rattle.ap_values.proofs.WritingLemmas.{made_open, made_unit, made_names, made_base, down_pair, down_list, down_abs}
+use Rattle.ap_values.proofs.writing.go_down.Goals as goal
 
 pub returns-in-Place : goal.returns-in-Place
 returns-in-Place c = λ f x h. made_open f c.args.layers.now.items x c.in-Place.x _ refl (subst (IsEntryOf f x) c.in-Place.is h)

@@ -3,7 +3,7 @@ use Rattle.std.proofs.Common.{◌≡◌, ◌<◌, length}
 use Rattle.ap_types.specs.Solving.{shape_at}
 use Rattle.ap_types.specs.Triangular.{shapes_of_nodes, value_of}
 use Rattle.ap_types.specs.Joining.{link}
-use Rattle.ap_types.proofs.writing.entry_at.Given as goal
+use Rattle.ap_types.proofs.entries.entry_at.Given as goal
 
 abbrev pub invariant-links : goal.invariant-links
 invariant-links l =

@@ -1,8 +1,8 @@
 use Rattle.std.proofs.Common.{ap}
 use Rattle.ap_defs.specs.Types.{shape_of, list}
 use Rattle.ap_defs.specs.declared.terms.Shape.{Shape}
-use Rattle.ap_types.proofs.WritingLemmas.{across_pair, across_abs, put_pair, put_abs, put_list}
-use Rattle.ap_types.proofs.writing.put_in.Goals as goal
+use Rattle.ap_values.proofs.WritingLemmas.{across_pair, across_abs, put_pair, put_abs, put_list}
+use Rattle.ap_values.proofs.writing.put_in.Goals as goal
 
 pub returns-in_ok-push-in-FirstOfPair : goal.returns-in_ok-push-in-FirstOfPair
 returns-in_ok-push-in-FirstOfPair c =
