@@ -2,8 +2,9 @@
 
 use ap_defs::limits::SIZE_LIMIT;
 use ap_lexer::{LexError, Token, lex};
-use ap_syntax::{SynError, parse};
+use ap_syntax::SynError;
 use ap_trees::Item;
+use ap_whole::parse;
 use std::alloc::Global;
 
 /// The tokens of a text.

@@ -9,7 +9,8 @@ use crate::written::part_shown;
 use ap_defs::faults::SyntaxFault;
 use ap_lexer::{Token, TokenKind};
 use ap_syntax::SynError;
-use ap_trees::{Item, ReadError, Tree, TypeTree, symbols_of, whole_term, whole_type};
+use ap_trees::{Item, ReadError, Tree, TypeTree};
+use ap_whole::{symbols_of, whole_term, whole_type};
 use std::alloc::{AllocError, Global};
 
 /// What is shown of a text.

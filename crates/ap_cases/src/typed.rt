@@ -8,7 +8,8 @@ use ap_defs::limits::SIZE_LIMIT;
 use ap_defs::terms::Raw;
 use ap_syntax::SynError;
 use ap_trees::Item;
-use ap_typecheck::{TypeError, check};
+use ap_typecheck::TypeError;
+use ap_whole::check;
 use std::alloc::{AllocError, Global};
 
 /// Identifiers with their kinds.

@@ -11,9 +11,9 @@ use crate::read_types::{
     read_pair, read_unit,
 };
 use ap_defs::memory::Memory;
+use ap_types::entries::entry_at;
 use ap_types::nodes::Node;
 use ap_types::solved::Solved;
-use ap_types::writing::entry_at;
 use std::alloc::Global;
 
 /// What is read off a place without parts.

@@ -17,7 +17,7 @@ use ap_defs::memory::Memory;
 use ap_defs::terms::{Name, Swap, Term};
 use ap_perm::closures::{Closure, Lent, Opened};
 use ap_perm::joining::copied;
-use ap_perm::perm::Perm;
+use ap_perm::swappings::canonical_list;
 use ap_store::store::Store;
 use std::alloc::Global;
 
@@ -48,7 +48,7 @@ fn canonical_of(alloc: Global, swaps: Vec<Swap>) -> Result<Vec<Swap>, Memory>
     if swaps.is_empty() {
         return Ok(swaps);
     }
-    Perm::of(alloc, &swaps)?.swaps(alloc)
+    canonical_list(alloc, &swaps)
 }
 
 /// What a closure stands for, with no bound variable at its head.

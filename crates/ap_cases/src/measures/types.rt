@@ -2,8 +2,8 @@
 
 use ap_defs::memory::Memory;
 use ap_defs::terms::Shape;
-use ap_types::equations::solve;
 use ap_types::errors::TypesError;
+use ap_values::solutions::solve;
 use std::alloc::{AllocError, Global};
 
 const STEPS: u64 = 20;
