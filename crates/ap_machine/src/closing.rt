@@ -51,6 +51,17 @@ fn canonical_of(alloc: Global, swaps: Vec<Swap>) -> Result<Vec<Swap>, Memory>
     Perm::of(alloc, &swaps)?.swaps(alloc)
 }
 
+/// Swappings that wait. Where there are none, those that are given are shared, which are none either.
+fn waiting_of(alloc: Global, none: &Swaps, swaps: Vec<Swap>) -> Result<Swaps, Memory>
+    requires { none.now ≡ [] }
+    ensures { IfOk result (λ s. s ≡ swaps.items) }
+{
+    if swaps.is_empty() {
+        return none.share();
+    }
+    Swaps::of(alloc, swaps)
+}
+
 /// What a closure stands for, with no bound variable at its head.
 fn headed<'a>(store: &Store<'a>, c: Closure<'a>) -> Result<Closure<'a>, Memory>
     ensures term { IfOk result (λ d. meaning_in store.now d ≡ meaning_in store.now c.entry) }
@@ -114,9 +125,11 @@ fn keep_right<'a>(rounds: &mut Vec<Round<'a>>, right: Closure<'a>) -> Result<(),
 fn go_in<'a>(
     alloc: Global,
     store: &Store<'a>,
+    none: &Swaps,
     rounds: &mut Vec<Round<'a>>,
     c: Closure<'a>,
 ) -> Result<Part<'a>, Memory>
+    requires { none.now ≡ [] }
     ensures same { IfOk result (λ p.
         closed_within store.now rounds.new.items (closed_part store.now p)
         ≡ closed_within store.now rounds.old.items (canonical_term (meaning_in store.now c.entry))) }
@@ -130,7 +143,7 @@ fn go_in<'a>(
         Opened::Name(a) => Ok(Part::Made(Term::Name(a))),
         Opened::Susp(swaps, x) => {
             let swaps = canonical_of(alloc, swaps)?;
-            let waiting = Swaps::of(alloc, swaps)?;
+            let waiting = waiting_of(alloc, none, swaps)?;
             Ok(Part::Made(Term::Susp(waiting, x)))
         }
         Opened::Pair(left, right) => {
@@ -192,7 +205,13 @@ fn go_out<'a>(
 
 /// What a closure stands for under the bindings, with canonical lists, made part by part.
 #[tactic(auto, using(crate::proofs::ClosedLemmas::closed_within_last, crate::proofs::ClosedLemmas::rounds_work_last))]
-fn close<'a>(alloc: Global, store: &Store<'a>, first: Closure<'a>) -> Result<Term, Memory>
+fn close<'a>(
+    alloc: Global,
+    store: &Store<'a>,
+    none: &Swaps,
+    first: Closure<'a>,
+) -> Result<Term, Memory>
+    requires { none.now ≡ [] }
     ensures { IfOk result (λ t. term_of t
         ≡ canonical_term (meaning_in store.now first.entry)) }
 {
@@ -200,7 +219,7 @@ fn close<'a>(alloc: Global, store: &Store<'a>, first: Closure<'a>) -> Result<Ter
     let mut part = Part::Left(first);
     'closing: loop {
         match part {
-            Part::Left(c) => part = go_in(alloc, store, &mut rounds, c)?,
+            Part::Left(c) => part = go_in(alloc, store, none, &mut rounds, c)?,
             Part::Made(t) => match rounds.pop() {
                 None => return Ok(t),
                 Some(round) => part = go_out(alloc, &mut rounds, round, t)?,
@@ -210,8 +229,15 @@ fn close<'a>(alloc: Global, store: &Store<'a>, first: Closure<'a>) -> Result<Ter
 }
 
 /// What a closure stands for under the bindings, with canonical lists. It is made once, and what stands
-/// round the part that is being made lies on a stack of its own.
-pub fn closed_from<'a>(alloc: Global, store: &Store<'a>, c: Lent<'_, 'a>) -> Result<Term, Memory>
+/// round the part that is being made lies on a stack of its own. Suspensions on which no swappings wait share the
+/// given ones, which are none.
+pub(crate) fn closed_from<'a>(
+    alloc: Global,
+    store: &Store<'a>,
+    none: &Swaps,
+    c: Lent<'_, 'a>,
+) -> Result<Term, Memory>
+    requires { none.now ≡ [] }
     ensures { IfOk result (λ t. term_of t
         ≡ canonical_term (under (bindings_of store.now) (lent_term c.entry))) }
 {
@@ -222,5 +248,5 @@ pub fn closed_from<'a>(alloc: Global, store: &Store<'a>, c: Lent<'_, 'a>) -> Res
         end: c.end,
         term: c.term,
     };
-    close(alloc, store, first)
+    close(alloc, store, none, first)
 }
