@@ -76,6 +76,9 @@ pub fn with_kinds(
     ensures { IfOk result (λ ls. locals_of ls
         ≡ made.with_kinds (map identifier_of found.now) (map kind_of kinds.items)) }
 {
+    if found.is_empty() {
+        return Ok(List::of(Vec::new(alloc)));
+    }
     let mut locals = Vec::with_capacity(alloc, found.len())?;
     let blank = SharedText::of(alloc, Text::of(String::from_str(alloc, "_")?))?;
     let mut rest = kinds.into_iter();
