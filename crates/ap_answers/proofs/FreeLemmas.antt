@@ -4,7 +4,7 @@ use Rattle.std.proofs.lemmas.List.{append-nil, length-map, map-append}
 use Rattle.std.specs.Prelude.{filter, not}
 use Rattle.std.specs.Fmt.{decimal}
 use Rattle.ap_defs.specs.Printing.{has_word, new_words}
-use Rattle.ap_answers.specs.Words.{free_numbers, numbered}
+use Rattle.ap_answers.specs.Words.{free_numbers, numbered_words}
 use Rattle.ap_answers.proofs.WordLemmas.{rest_of_words, tried_next}
 
 kept : (b : Bool) (numbers numbers1 rest all : List ℕ) (k : ℕ) → numbers1 ≡ numbers ++ cond (not b) (k ∷ []) []
@@ -61,11 +61,11 @@ take_both (suc n) k (x ∷ xs) ys e = ap (λ (ws : List (List ℕ)). x ∷ ws) (
 -- the words of the first free numbers, and as many of those behind them as are wanting, are the generated ones
 pub first_then_rest : (letter : List ℕ) (words : List (List ℕ)) (count tried j r : ℕ) (free numbers : List ℕ) → free ≡ free_numbers letter words 1 tried
     → tried + r ≡ count + length words → j ≡ tried + 1 → numbers ≡ take count free
-    → numbered letter numbers ++ take (count - length numbers) (rest_of_words letter words j r) ≡ new_words letter words count
+    → numbered_words letter numbers ++ take (count - length numbers) (rest_of_words letter words j r) ≡ new_words letter words count
 first_then_rest letter words count tried j r free numbers e all next is =
-    let made = numbered letter numbers in
+    let made = numbered_words letter numbers in
     let firsts : made ≡ take count (rest_of_words letter words 1 tried) =
-    ap (numbered letter) is ∙ map_take (λ k. letter ++ decimal k) count free ∙ ap (λ ks. take count (numbered letter ks)) e ∙ ap (take count) (free_words letter words 1 tried)
+    ap (numbered_words letter) is ∙ map_take (λ k. letter ++ decimal k) count free ∙ ap (λ ks. take count (numbered_words letter ks)) e ∙ ap (take count) (free_words letter words 1 tried)
     in
     let few : count - length numbers ≡ count - length (take count (rest_of_words letter words 1 tried)) = ap (λ n. count - n) (sym (length-map (λ k. letter ++ decimal k) numbers)) ∙ ap (λ (ws : List (List ℕ)). count - length ws) firsts in
     let both = take_both count (count - length numbers) (rest_of_words letter words 1 tried) (rest_of_words letter words j r) few in
@@ -74,18 +74,18 @@ first_then_rest letter words count tried j r free numbers e all next is =
 -- one number more of those whose words are generated
 pub numbers_next : (letter : List ℕ) (words : List (List ℕ)) (known : List ℕ → Bool) (count i n m : ℕ) (numbers numbers1 : List ℕ) (all : List (List ℕ)) → ((w : List ℕ) → known w ≡ has_word w words)
     → n ≡ suc m → length numbers ≤ count → length numbers ≢ count → numbers1 ≡ numbers ++ filter (λ k. not (known (letter ++ decimal k))) (i ∷ [])
-    → numbered letter numbers ++ take (count - length numbers) (rest_of_words letter words i n) ≡ all
-    → (numbered letter numbers1 ++ take (count - length numbers1) (rest_of_words letter words (i + 1) m) ≡ all) × (length numbers1 ≤ count)
+    → numbered_words letter numbers ++ take (count - length numbers) (rest_of_words letter words i n) ≡ all
+    → (numbered_words letter numbers1 ++ take (count - length numbers1) (rest_of_words letter words (i + 1) m) ≡ all) × (length numbers1 ≤ count)
 numbers_next letter words known count i n m numbers numbers1 all same s few wanting e h =
     let f : ℕ → List ℕ = λ k. letter ++ decimal k in
     let kept : List ℕ = filter (λ k. not (known (letter ++ decimal k))) (i ∷ []) in
-    let made : numbered letter numbers1 ≡ numbered letter numbers ++ filter (λ w. not (known w)) ((letter ++ decimal i) ∷ []) =
-    ap (numbered letter) e ∙ map-append f numbers kept ∙ ap (λ (ws : List (List ℕ)). numbered letter numbers ++ ws) (kept_words f (not (known (letter ++ decimal i))) i [] [] refl)
+    let made : numbered_words letter numbers1 ≡ numbered_words letter numbers ++ filter (λ w. not (known w)) ((letter ++ decimal i) ∷ []) =
+    ap (numbered_words letter) e ∙ map-append f numbers kept ∙ ap (λ (ws : List (List ℕ)). numbered_words letter numbers ++ ws) (kept_words f (not (known (letter ++ decimal i))) i [] [] refl)
     in
-    let as_long : length (numbered letter numbers) ≡ length numbers = length-map f numbers in
-    let as_long1 : length (numbered letter numbers1) ≡ length numbers1 = length-map f numbers1 in
+    let as_long : length (numbered_words letter numbers) ≡ length numbers = length-map f numbers in
+    let as_long1 : length (numbered_words letter numbers1) ≡ length numbers1 = length-map f numbers1 in
     let next =
-    tried_next letter words known count i n m (numbered letter numbers) (numbered letter numbers1) all same s (rw as_long few) (rw as_long wanting) made (rw as_long h)
+    tried_next letter words known count i n m (numbered_words letter numbers) (numbered_words letter numbers1) all same s (rw as_long few) (rw as_long wanting) made (rw as_long h)
     in
     (rw as_long1 at next.0, rw as_long1 at next.1)
 

@@ -4,7 +4,7 @@ use Rattle.ap_defs.specs.Permutations.{name_eq}
 use Rattle.ap_defs.specs.Freshness.{var_eq}
 use Rattle.ap_defs.specs.Types.{constructor_of}
 use Rattle.ap_defs.specs.Printing.{Spelling}
-use Rattle.ap_answers.specs.Words.{numbered}
+use Rattle.ap_answers.specs.Words.{numbered_words}
 use Rattle.ap_answers.specs.declared.speller.Speller.{Speller}
 use Rattle.ap_answers.specs.declared.speller.VarTexts.{VarTexts}
 use Rattle.ap_answers.specs.declared.speller.VarTexts.TheVariants as texts
@@ -12,7 +12,7 @@ use Rattle.ap_answers.specs.declared.speller.VarTexts.TheVariants as texts
 -- the texts, one by one
 abbrev pub texts_of : VarTexts → List (List ℕ)
 texts_of (texts.Written ts) = ts.items
-texts_of (texts.Numbered ns) = numbered (codes "_") ns.items
+texts_of (texts.Numbered ns) = numbered_words (codes "_") ns.items
 
 abbrev pub text_at : List (List ℕ) → Option ℕ → List ℕ
 text_at texts None = []

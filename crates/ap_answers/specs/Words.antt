@@ -16,8 +16,8 @@ abbrev pub free_numbers : List ℕ → List (List ℕ) → ℕ → ℕ → List 
 free_numbers letter words i n = filter (λ k. not (has_word (letter ++ decimal k) words)) (range_with_len i n)
 
 -- the words of a letter with these numbers
-abbrev pub numbered : List ℕ → List ℕ → List (List ℕ)
-numbered letter numbers = map (λ k. letter ++ decimal k) numbers
+abbrev pub numbered_words : List ℕ → List ℕ → List (List ℕ)
+numbered_words letter numbers = map (λ k. letter ++ decimal k) numbers
 
 abbrev pub AreFree : List ℕ → List (List ℕ) → Free → Type 0
 AreFree letter words f = (f.numbers.items ≡ free_numbers letter words 1 f.tried) × (f.tried ≤ length words)

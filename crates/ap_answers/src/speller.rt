@@ -5,7 +5,7 @@ ghost use Rattle.ap_defs.specs.Types.{locals_of};
 ghost use Rattle.ap_defs.specs.Goals.{program_of};
 ghost use Rattle.ap_defs.specs.Renaming.{local_names};
 ghost use Rattle.ap_defs.specs.Lines.{NominalShown, spelling_for};
-ghost use Rattle.ap_answers.specs.Words.{IsTaken, numbered};
+ghost use Rattle.ap_answers.specs.Words.{IsTaken, numbered_words};
 ghost use Rattle.ap_answers.specs.Spelled.{spelling_in, text_at, texts_of};
 
 use crate::locals::free_name_texts;
@@ -49,7 +49,7 @@ fn write_at(out: &mut Vec<u8>, texts: &[Text], place: usize) -> Result<(), Memor
 #[tactic(auto, using(crate::proofs::SpellingLemmas::numbered_there, crate::proofs::SpellingLemmas::numbered_past))]
 fn write_numbered_at(out: &mut Vec<u8>, numbers: &[u64], place: usize) -> Result<(), Memory>
     ensures { OnOk result (out.new.items
-        ≡ out.old.items ++ text_at (numbered (codes "_") numbers.now) (Some place)) }
+        ≡ out.old.items ++ text_at (numbered_words (codes "_") numbers.now) (Some place)) }
 {
     if let Some(number) = numbers.get(place) {
         let alloc = *out.allocator();

@@ -2,7 +2,7 @@
 
 ghost use Rattle.std.specs.Prelude.{◌≡◌, ◌≤◌, ℕ, List as list, [], ◌∷◌, ◌++◌, false, not, codes, filter, decimal, length, IfOk, OnOk};
 ghost use Rattle.ap_defs.specs.Printing.{has_word, new_words};
-ghost use Rattle.ap_answers.specs.Words.{knows, numbered, AreFree, IsTaken};
+ghost use Rattle.ap_answers.specs.Words.{knows, numbered_words, AreFree, IsTaken};
 
 use ap_defs::lists::Text;
 use ap_defs::memory::Memory;
@@ -131,7 +131,7 @@ pub fn generated_numbers(
 ) -> Result<Vec<u64>, Memory>
     requires taken { (w : list ℕ) → knows taken.now w ≡ has_word w words.now }
     requires free { AreFree letter.now words.now free.now }
-    ensures { IfOk result (λ v. numbered letter.now v.items
+    ensures { IfOk result (λ v. numbered_words letter.now v.items
         ≡ new_words letter.now words.now count) }
 {
     let Some(limit) = count.checked_add(words.len()) else {
@@ -159,7 +159,7 @@ fn push_word(alloc: Global, made: &mut Vec<Text>, letter: &str, number: u64) -> 
 
 /// The words of a letter with these numbers.
 fn words_of(alloc: Global, letter: &str, numbers: &[u64]) -> Result<Vec<Text>, Memory>
-    ensures { IfOk result (λ made. made.items ≡ numbered letter.now numbers.now) }
+    ensures { IfOk result (λ made. made.items ≡ numbered_words letter.now numbers.now) }
 {
     let mut made = Vec::with_capacity(alloc, numbers.len())?;
     for number in numbers {
