@@ -140,8 +140,8 @@ pub record LoadsSystem (es fs : List ShapeEquation) (holes : ℕ) (ts : List Typ
   pub more : (f : Filling) → FillingSolves f es → FillingSolves f fs → (g : Filling) × (Fits g ts × Agree g ps) × ((x : ℕ) → x < holes → g x ≡ f x)
 
 -- They say so of equations and of those by which holes are the one name type, and the holes are all that these have.
-abbrev pub IsBegun : List ShapeEquation → List ℕ → ℕ → ℕ → List TypeShape → List (ℕ × ℕ) → Type 0
-IsBegun es xs n holes ts ps = (holes ≡ hole_count es xs) × LoadsSystem es (name_equations n xs) holes ts ps
+abbrev pub BeginsSystem : List ShapeEquation → List ℕ → ℕ → ℕ → List TypeShape → List (ℕ × ℕ) → Type 0
+BeginsSystem es xs n holes ts ps = (holes ≡ hole_count es xs) × LoadsSystem es (name_equations n xs) holes ts ps
 
 -- What fits and makes the pairs alike is what fits the other table, in which no place stands within itself.
 pub record Settles (ts : List TypeShape) (ps : List (ℕ × ℕ)) (ts' : List TypeShape) : Type 0 where
