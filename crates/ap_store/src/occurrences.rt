@@ -236,6 +236,7 @@ fn told_of(found: Occurrence, like: Option<Var>) -> Occurrence
 
 /// Whether a variable occurs in what a part stands for: where it may be in the variables of a single one only, in
 /// what that stands for.
+#[inline(never)]
 fn occurs_in_part<'a>(
     alloc: Global,
     store: &Store<'a>,
