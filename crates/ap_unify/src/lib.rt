@@ -4,6 +4,8 @@
 mod finish;
 pub mod fresh;
 mod heads;
+mod moved;
+mod moved_runs;
 mod parts;
 mod reducing;
 mod runs;
