@@ -56,7 +56,7 @@ fn head_within<'a>(store: &Store<'a>, p: Plain<'a>) -> PartWithHead<'a>
         Term::Unit | Term::Name(_) | Term::Pair(_, _) | Term::App(_, _) | Term::Abs(_, _, _) =>
             PartWithHead {
                 part: p,
-                head: Head::Form(false),
+                head: Head::Form,
             },
     }
 }
@@ -200,12 +200,12 @@ fn by_moved_heads<'a>(
     ensures kinds { kinds store.new ≡ kinds store.old }
 {
     match (left, right) {
-        (Head::Form(_), Head::Form(_)) => Ok(moved_forms(sides, ahead)),
-        (Head::Free(x), Head::Form(_)) => {
+        (Head::Form, Head::Form) => Ok(moved_forms(sides, ahead)),
+        (Head::Free(x), Head::Form) => {
             let c = moved_closure(alloc, sides.right, ahead.next.right)?;
             bind_back(alloc, store, work, sides.left, x, c)
         }
-        (Head::Form(_), Head::Free(y)) => {
+        (Head::Form, Head::Free(y)) => {
             let c = moved_closure(alloc, sides.left, ahead.next.left)?;
             bind_back(alloc, store, work, sides.right, y, c)
         }

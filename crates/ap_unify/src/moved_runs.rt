@@ -18,6 +18,7 @@ use crate::moved::{Sides, moved_closure, step_moved};
 use crate::parts::{Ahead, Turn};
 use crate::ways::{Front, Way};
 use ap_defs::memory::Memory;
+use ap_defs::terms::Term;
 use ap_equations::plain::{Plain, PlainPair};
 use ap_equations::work::{by_rule, put_equation};
 use ap_perm::closures::Closure;
@@ -146,7 +147,17 @@ fn part_of<'a>(c: &Closure<'a>) -> Plain<'a>
         base: c.base,
         end: c.end,
         term: c.term,
+        is_ground: false,
     }
+}
+
+/// Whether two closures are abstractions, whose binders mostly differ: then the swappings change at once. It spares
+/// work alone.
+fn are_abstractions(e: &ClosurePair<'_>) -> bool {
+    matches!(
+        (e.left.term, e.right.term),
+        (Term::Abs(_, _, _), Term::Abs(_, _, _))
+    )
 }
 
 /// Rewrites an equation of two parts on which swappings wait, in front of those that are left, as long as this makes
@@ -198,6 +209,9 @@ pub fn along_closures<'a>(
     ensures past { IsPrefixOf (versions store.old) (versions store.new) }
     ensures kinds { kinds store.new ≡ kinds store.old }
 {
+    if are_abstractions(&first) {
+        return by_rule(alloc, store, work, first);
+    }
     let pair = PlainPair {
         left: part_of(&first.left),
         right: part_of(&first.right),

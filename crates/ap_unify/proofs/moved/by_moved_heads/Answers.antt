@@ -15,11 +15,11 @@ use Rattle.ap_unify.specs.Moved.{IsMovedRule}
 
 pub moved_forms-requires-clause-left_form : goal.moved_forms-requires-clause-left_form
 moved_forms-requires-clause-left_form c =
-    (head_form (bindings_of c.args.store.now) (plain_term c.args.ahead.now.next.left) c.args.left c.in-Form-Form.field-0-0 c.requires.left c.in-Form-Form.is-0).0
+    (head_form (bindings_of c.args.store.now) (plain_term c.args.ahead.now.next.left) c.args.left c.requires.left c.in-Form-Form.is-0)
 
 pub moved_forms-requires-clause-right_form : goal.moved_forms-requires-clause-right_form
 moved_forms-requires-clause-right_form c =
-    (head_form (bindings_of c.args.store.now) (plain_term c.args.ahead.now.next.right) c.args.right c.in-Form-Form.field-0-1 c.requires.right c.in-Form-Form.is-1).0
+    (head_form (bindings_of c.args.store.now) (plain_term c.args.ahead.now.next.right) c.args.right c.requires.right c.in-Form-Form.is-1)
 
 pub returns-in-Form-Form-clause-below : goal.returns-in-Form-Form-clause-below
 returns-in-Form-Form-clause-below c = c.moved_forms.ensures.below (present c.args.store.now).next c.requires.below
@@ -54,7 +54,7 @@ returns-in_ok-c-in-Free-Form-clause-turn c =
     let r = plain_term c.args.ahead.now.next.right in
     let x = c.in-Free-Form.x in
     let u = act_term m.right.now r in
-    let f = act_form m.right.now r (head_form s r c.args.right c.in-Free-Form.field-0-1 c.requires.right c.in-Free-Form.is-1).0 in
+    let f = act_form m.right.now r (head_form s r c.args.right c.requires.right c.in-Free-Form.is-1) in
     let e = ap (λ (t : NominalTerm). unless_occurs x (under s t) (act_term (inverse m.left.now) (under s t))) c.in_ok-c-in-Free-Form.ensures
     ∙ moved_left s m.left.now x l u (head_free s l c.args.left x c.requires.left c.in-Free-Form.is-0) f in
     if_ok c.bind_back-in-Free-Form.result (λ turn h. subst (IsMovedRule m turn c.args.ahead.now s (bindings_of c.bind_back-in-Free-Form.new.store)) e (h m c.args.ahead.now)) c.bind_back-in-Free-Form.ensures.turn
@@ -92,7 +92,7 @@ returns-in_ok-c-in-Form-Free-clause-turn c =
     let r = plain_term c.args.ahead.now.next.right in
     let y = c.in-Form-Free.y in
     let t = act_term m.left.now l in
-    let f = act_form m.left.now l (head_form s l c.args.left c.in-Form-Free.field-0-0 c.requires.left c.in-Form-Free.is-0).0 in
+    let f = act_form m.left.now l (head_form s l c.args.left c.requires.left c.in-Form-Free.is-0) in
     let e = ap (λ (v : NominalTerm). unless_occurs y (under s v) (act_term (inverse m.right.now) (under s v))) c.in_ok-c-in-Form-Free.ensures
     ∙ moved_right s m.right.now y t r f (head_free s r c.args.right y c.requires.right c.in-Form-Free.is-1) in
     if_ok c.bind_back.result (λ turn h. subst (IsMovedRule m turn c.args.ahead.now s (bindings_of c.bind_back.new.store)) e (h m c.args.ahead.now)) c.bind_back.ensures.turn
