@@ -13,9 +13,9 @@ use Rattle.ap_unify.specs.declared.moved.Sides.{Sides}
 use Rattle.ap_unify.specs.declared.parts.Ahead.{Ahead}
 use Rattle.ap_unify.specs.declared.parts.Turn.{Turn}
 use Rattle.ap_unify.specs.declared.parts.Turn.TheVariants as turns
-use Rattle.ap_unify.specs.declared.ways.Front.{Front}
-use Rattle.ap_unify.specs.declared.ways.Way.{Way}
-use Rattle.ap_unify.specs.declared.ways.Way.TheVariants as ways
+use Rattle.ap_unify.specs.declared.fronts.Front.{Front}
+use Rattle.ap_unify.specs.declared.fronts.Way.{Way}
+use Rattle.ap_unify.specs.declared.fronts.Way.TheVariants as ways
 
 abbrev pub moved_equation : Sides → PlainPair → Equation
 moved_equation m p = act_term m.left.now (plain_term p.left) ≐ act_term m.right.now (plain_term p.right)

@@ -3,6 +3,7 @@
 
 mod finish;
 pub mod fresh;
+mod fronts;
 mod heads;
 mod moved;
 mod moved_runs;

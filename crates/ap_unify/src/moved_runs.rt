@@ -14,9 +14,9 @@ ghost use Rattle.ap_store.specs.Views.{bindings_of, kinds, present, versions};
 ghost use Rattle.ap_unify.specs.Moved.{AreMovedBelow, IsMovedWaitingBelow, IsMovedWayBelow, moved_equation, moved_progress_to, moved_stage, moved_waiting};
 ghost use Rattle.ap_unify.specs.Parts.{LeadsTo};
 
+use crate::fronts::{Front, Way};
 use crate::moved::{Sides, moved_closure, step_moved};
 use crate::parts::{Ahead, Turn};
-use crate::ways::{Front, Way};
 use ap_defs::memory::Memory;
 use ap_defs::terms::Term;
 use ap_equations::plain::{Plain, PlainPair};

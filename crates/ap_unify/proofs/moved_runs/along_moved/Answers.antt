@@ -7,7 +7,7 @@ use Rattle.ap_rules.proofs.WorkLemmas.{go_on_on, goes_on_on}
 use Rattle.ap_unify.proofs.moved_runs.along_moved.Goals as goal
 use Rattle.ap_unify.specs.Moved.{AreMovedBelow, IsMovedWaitingBelow, IsMovedWayBelow, moved_progress_to, moved_stage}
 use Rattle.ap_rules.specs.Work.{progress_if, work_stage}
-use Rattle.ap_unify.specs.declared.ways.Way.TheVariants as ways
+use Rattle.ap_unify.specs.declared.fronts.Way.TheVariants as ways
 
 pub returns-in-End-clause-stage : goal.returns-in-End-clause-stage
 returns-in-End-clause-stage c =
