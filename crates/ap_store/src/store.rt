@@ -292,6 +292,7 @@ impl<'a> Store<'a> {
 
     /// Notes what a variable is bound to; the variables in it are below `end`, and the same as those in what
     /// another one stands for, if one is given.
+    #[inline(always)]
     fn note_binding(&mut self, x: Var, value: Value<'a>, end: u64, like: Option<u32>)
         requires room { vec_len self.old.trail < vec_capacity self.old.trail }
         requires made { x.num < (present self.old).next }
