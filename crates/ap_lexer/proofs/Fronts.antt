@@ -76,11 +76,3 @@ less_left (t ∷ ts) some = by (is_dot t)
     by : (b : Bool) → length (if b then ts else after_item ts) < length (t ∷ ts)
     by true = omega arith
     by false = omega (arith, not_longer ts)
-
-pub front_none : (ts : List Lexeme) → item_front ts ≡ [] → ts ≡ []
-front_none [] e = refl
-front_none (t ∷ ts) e = absurd (cc e)
-
-pub front_some : (ts : List Lexeme) → 0 < length (item_front ts) → 0 < length ts
-front_some [] some = some
-front_some (t ∷ ts) some = omega arith

@@ -13,5 +13,5 @@ mod token;
 
 pub use cursor::Cursor;
 pub use pieces::takes_longest;
-pub use scan::{count_dots, item_tokens, lex};
+pub use scan::lex;
 pub use token::{LexError, Token, TokenKind};

@@ -1,9 +1,9 @@
 // The tokens of a text, one after another.
-ghost use Rattle.std.specs.Prelude.{◌≡◌, ◌≤◌, ◌+◌, [], IfOk, OnOk, length, count_by};
+ghost use Rattle.std.specs.Prelude.{◌≡◌, ◌≤◌, ◌+◌, IfOk, length, count_by};
 ghost use Rattle.ap_defs.specs.Limits.{size_limit};
 ghost use Rattle.ap_lexer.specs.Laws.{AreTokensOf};
-ghost use Rattle.ap_lexer.specs.Cursors.{HasStopped, lexemes_left};
-ghost use Rattle.ap_lexer.specs.Tokens.{GivesLexemes, lexed, lexemes, lexemes_of, is_dot, item_front, after_item};
+ghost use Rattle.ap_lexer.specs.Cursors.{HasStopped};
+ghost use Rattle.ap_lexer.specs.Tokens.{GivesLexemes, lexed, lexemes, lexemes_of, is_dot};
 
 use crate::cursor::Cursor;
 use crate::token::{LexError, Token};
@@ -37,7 +37,7 @@ fn scan(alloc: Global, text: &[u8]) -> Result<Scanned<'_>, AllocError>
 }
 
 /// How many `.` there are.
-pub fn count_dots(tokens: &[Token<'_>]) -> usize
+fn count_dots(tokens: &[Token<'_>]) -> usize
     ensures value { result ≡ count_by is_dot (lexemes tokens.now) }
     ensures bound { result ≤ length tokens.now }
 {
@@ -59,25 +59,4 @@ pub fn lex(alloc: Global, text: &[u8]) -> Result<Vec<Token<'_>>, LexError>
         None => Ok(tokens),
         Some(fault) => Err(LexError::Fault(fault)),
     }
-}
-
-/// The tokens of the next item, with the `.` that ends it, behind which the cursor then stands.
-///
-/// They are all tokens that are left where no `.` comes, and then it stands where nothing begins. `Err`
-/// is want of memory.
-pub fn item_tokens<'a>(alloc: Global, cursor: &mut Cursor<'a>) -> Result<Vec<Token<'a>>, AllocError>
-    ensures whole { OnOk result (cursor.new.whole ≡ cursor.old.whole) }
-    ensures text { OnOk result (cursor.new.text ≡ cursor.old.text) }
-    ensures tokens { IfOk result (λ v. lexemes v.items ≡ item_front (lexemes_left cursor.old)) }
-    ensures left { OnOk result (lexemes_left cursor.new ≡ after_item (lexemes_left cursor.old)) }
-    ensures stop { IfOk result (λ v. v.items ≡ [] → HasStopped cursor.new) }
-{
-    let mut tokens = Vec::new(alloc);
-    while let Some(token) = cursor.token() {
-        tokens.push(token)?;
-        if token.ends_item() {
-            return Ok(tokens);
-        }
-    }
-    Ok(tokens)
 }

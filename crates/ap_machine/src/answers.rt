@@ -26,13 +26,15 @@ use ap_perm::closures::Closure;
 use ap_store::store::Store;
 use std::alloc::Global;
 
-/// What a variable stands for, with canonical lists.
-pub fn closed_var<'a>(alloc: Global, store: &Store<'a>, x: Var) -> Result<Term, Memory>
+/// What a variable stands for, with canonical lists. Suspensions on which no swappings wait share the given ones,
+/// which are none.
+fn closed_var<'a>(alloc: Global, store: &Store<'a>, none: &Swaps, x: Var) -> Result<Term, Memory>
+    requires { none.now ≡ [] }
     ensures { IfOk result (λ t. term_of t ≡ closed_term (state_in store.now) (susp [] x)) }
 {
     match store.binding(x) {
-        None => Ok(Term::Susp(Swaps::none(alloc)?, x)),
-        Some(bound) => closed_from(alloc, store, bound),
+        None => Ok(Term::Susp(none.share()?, x)),
+        Some(bound) => closed_from(alloc, store, none, bound),
     }
 }
 
@@ -40,9 +42,10 @@ pub fn closed_var<'a>(alloc: Global, store: &Store<'a>, x: Var) -> Result<Term, 
 pub fn closed(alloc: Global, store: &Store<'_>, vars: &[Var]) -> Result<Vec<Term>, Memory>
     ensures { IfOk result (λ v. map term_of v.items ≡ closed_vars (state_in store.now) vars.now) }
 {
+    let none = Swaps::none(alloc)?;
     let mut terms = Vec::new(alloc);
     'closing: for x in vars {
-        terms.push(closed_var(alloc, store, *x)?)?;
+        terms.push(closed_var(alloc, store, &none, *x)?)?;
     }
     Ok(terms)
 }

@@ -12,7 +12,8 @@ use Rattle.ap_defs.specs.declared.faults.SyntaxKind.TheVariants as kinds
 use Rattle.ap_lexer.specs.declared.token.Token.{Token}
 use Rattle.ap_lexer.specs.Tokens.{Lexeme, lexeme, lexemes, is_dot, item_front, after_item}
 use Rattle.ap_lexer.proofs.Fronts.{goes_on, ends, no_end}
-use Rattle.ap_trees.specs.Symbols.{Sym, sym_of, syms, syms_of}
+use Rattle.ap_trees.specs.declared.symbols.Symbol.{Symbol}
+use Rattle.ap_trees.specs.Symbols.{Sym, sym as sym_of_symbol, sym_of, syms, syms_of}
 use Rattle.ap_trees.specs.Items.{Saying, ItemOf}
 use Rattle.ap_syntax.specs.declared.faults.SynError.{SynError}
 use Rattle.ap_syntax.specs.declared.faults.SynError.TheVariants as errors
@@ -162,7 +163,7 @@ pub read_none : (all : List Lexeme) → ReadTo all all []
 read_none all = record { tokens = []; parts = refl; undotted = refl; same = refl }
 
 -- one more token
-pub read_on : (all us : List Lexeme) (t : Lexeme) (symbols more : List Sym) → ReadTo all (t ∷ us) symbols → is_dot t ≡ false → more ≡ symbols ++ sym_of t ∷ [] → ReadTo all us more
+read_on : (all us : List Lexeme) (t : Lexeme) (symbols more : List Sym) → ReadTo all (t ∷ us) symbols → is_dot t ≡ false → more ≡ symbols ++ sym_of t ∷ [] → ReadTo all us more
 read_on all us t symbols more r other e =
     let on = goes_on all r.tokens (t ∷ us) us t r.parts refl r.undotted other in
     record {
@@ -171,6 +172,14 @@ read_on all us t symbols more r other e =
       undotted = on.1;
       same = e ∙ ap (λ ss. ss ++ sym_of t ∷ []) r.same ∙ sym (map-append sym_of r.tokens (t ∷ []));
     }
+
+-- one more symbol, that of a token, and then the tokens that are left begin with the next
+pub read_more : (all us next : List Lexeme) (t : Token) (s : Symbol) (symbols more : List Symbol) → ReadTo all (lexeme t ∷ us) (syms symbols) → is_dot (lexeme t) ≡ false → sym_of_symbol s ≡ sym_of (lexeme t)
+    → more ≡ symbols ++ s ∷ [] → us ≡ next → ReadTo all next (syms more)
+read_more all us next t s symbols more r other same pushed e =
+    let added : syms more ≡ syms symbols ++ sym_of (lexeme t) ∷ [] =
+    ap syms pushed ∙ map-append sym_of_symbol symbols (s ∷ []) ∙ ap (λ x. syms symbols ++ x ∷ []) same in
+    subst (λ (ts : List Lexeme). ReadTo all ts (syms more)) e (read_on all us (lexeme t) (syms symbols) (syms more) r other added)
 
 dot_behind : (xs : List Lexeme) (t : Lexeme) (us : List Lexeme) → list_any is_dot xs ≡ false → is_dot t ≡ true → first_dot (xs ++ t ∷ us) ≡ Some (length xs)
 dot_behind [] t us none e = dot_next t us ∙ ap (λ b. cond b (Some 0) (option_map suc (first_dot us))) e

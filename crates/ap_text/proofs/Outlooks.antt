@@ -18,7 +18,7 @@ use Rattle.ap_typecheck.specs.Checking.{IsFirstTypeFault}
 use Rattle.ap_typecheck.specs.declared.texts.Typing.{Typing}
 use Rattle.ap_text.specs.declared.outlook.Outlook.{Outlook}
 use Rattle.ap_text.specs.declared.outlook.Outlook.TheVariants as outlooks
-use Rattle.ap_text.specs.Outlooks.{HasTyped, ReadsTo, ReadsAndTyped, IsOutlook, HasTypedText}
+use Rattle.ap_text.specs.Outlooks.{HasTyped, ReadsTo, ReadsAndTyped, IsOutlook, IsOutlookOf, HasTypedText}
 use Rattle.ap_text.proofs.TokenCounts.{few_lexemes}
 use Rattle.ap_text.specs.Texts.{HasItems, IsFaultOfText, faulty_item, ill_typed}
 
@@ -62,15 +62,22 @@ items_read text all n is e h = (all, e, subst (λ js. Reads 1 all (Ok js)) (appe
 pub few_items : (all : List Lexeme) (n : ℕ) (is : List ItemOf) → ReadsTo all [] n is → n ≡ item_after all → length all ≤ size_limit → length is ≤ size_limit
 few_items all n is h number few = omega (arith, h.0, number, few, count_by-le-length is_dot all)
 
-pub typed_text : (text : List ℕ) (all : List Lexeme) (n : ℕ) (t : Typing) → lexed text ≡ Ok all → ReadsAndTyped all [] n t outlooks.Typed → n ≡ item_after all → length all ≤ size_limit
-    → HasTypedText text t
-typed_text text all n t e h number few = (h.0, items_read text all n h.0 e h.1, few_items all n h.0 h.1 number few, h.2)
+pub typed_text : (text : List ℕ) (t : Typing) → IsOutlookOf text t outlooks.Typed → HasTypedText text t
+typed_text text t h =
+    let all = h.0 in
+    let n = item_after all in
+    let k : ReadsAndTyped all [] n t outlooks.Typed = h.3 in
+    (k.0, items_read text all n k.0 h.1 k.1, few_items all n k.0 k.1 refl h.2, k.2)
 
-pub mistyped : (text : List ℕ) (all : List Lexeme) (n : ℕ) (t : Typing) (f : TypeFault) → lexed text ≡ Ok all → ReadsAndTyped all [] n t (outlooks.Mistyped f) → IsFaultOfText text (faults.Types f)
-mistyped text all n t f e h = ill_typed h.0 f (items_read text all n h.0 e h.1) (subst (λ is. IsFirstTypeFault is f) (append-nil h.0) (h.2 []))
+pub mistyped : (text : List ℕ) (t : Typing) (f : TypeFault) → IsOutlookOf text t (outlooks.Mistyped f) → IsFaultOfText text (faults.Types f)
+mistyped text t f h =
+    let all = h.0 in
+    let n = item_after all in
+    let k : ReadsAndTyped all [] n t (outlooks.Mistyped f) = h.3 in
+    ill_typed k.0 f (items_read text all n k.0 h.1 k.1) (subst (λ is. IsFirstTypeFault is f) (append-nil k.0) (k.2 []))
 
-pub ungrammatical : (text : List ℕ) (all : List Lexeme) (f : SyntaxFault) → lexed text ≡ Ok all → Reads 1 all (Err f) → IsFaultOfText text (faults.Syntax f)
-ungrammatical text all f e h = faulty_item f (all, e, h)
+pub ungrammatical : (text : List ℕ) (t : Typing) (f : SyntaxFault) → IsOutlookOf text t (outlooks.Ungrammatical f) → IsFaultOfText text (faults.Syntax f)
+ungrammatical text t f h = faulty_item f (h.0, h.1, h.3)
 
 -- a fault of types stays the first one
 pub mistyped_on : (is : List ItemOf) (x : ItemOf) (t : Typing) (f : TypeFault) → HasTyped is t (outlooks.Mistyped f) → HasTyped (is ++ x ∷ []) t (outlooks.Mistyped f)

@@ -1,7 +1,7 @@
 -- What is known of a text by its items so far.
-use Rattle.std.specs.Prelude.{◌≡◌, ℕ, ◌+◌, ◌≤◌, List, ◌++◌, length, Err}
+use Rattle.std.specs.Prelude.{◌≡◌, ℕ, ◌+◌, ◌≤◌, List, [], ◌++◌, length, Ok, Err}
 use Rattle.ap_defs.specs.Limits.{size_limit}
-use Rattle.ap_lexer.specs.Tokens.{Lexeme}
+use Rattle.ap_lexer.specs.Tokens.{Lexeme, lexed, item_after}
 use Rattle.ap_trees.specs.Items.{ItemOf}
 use Rattle.ap_syntax.specs.Reading.{TextOutcome, Reads, after_items}
 use Rattle.ap_typecheck.specs.Checking.{IsFirstTypeFault}
@@ -29,6 +29,10 @@ abbrev pub IsOutlook : List Lexeme → List Lexeme → ℕ → Typing → Outloo
 IsOutlook all left n t outlooks.Typed = ReadsAndTyped all left n t outlooks.Typed
 IsOutlook all left n t (outlooks.Mistyped f) = ReadsAndTyped all left n t (outlooks.Mistyped f)
 IsOutlook all left n t (outlooks.Ungrammatical f) = Reads 1 all (Err f)
+
+-- what is known of a text that splits into few tokens, of which all are read
+abbrev pub IsOutlookOf : List ℕ → Typing → Outlook → Type 0
+IsOutlookOf text t o = (all : List Lexeme) × (lexed text ≡ Ok all) × (length all ≤ size_limit) × IsOutlook all [] (item_after all) t o
 
 -- the typing has the items of the text, which are few
 abbrev pub HasTypedText : List ℕ → Typing → Type 0

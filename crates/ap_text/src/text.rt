@@ -6,7 +6,7 @@ ghost use Rattle.ap_defs.specs.Limits.{size_limit};
 ghost use Rattle.ap_program.specs.NameRestriction.{item_count};
 ghost use Rattle.ap_program.specs.Typed.{IsTypedRawProgram};
 ghost use Rattle.ap_typecheck.specs.Typings.{IsTypingOf};
-ghost use Rattle.ap_text.specs.Outlooks.{HasTypedText};
+ghost use Rattle.ap_text.specs.Outlooks.{HasTypedText, IsOutlookOf};
 ghost use Rattle.ap_text.specs.Texts.{IsProgramOfText, IsRefusedText, IsTypedText};
 
 use crate::error::TextError;
@@ -21,6 +21,25 @@ use ap_restrict::restrict::restrict;
 use ap_typecheck::Typing;
 use std::alloc::Global;
 
+/// What is known of all items of a text, which go into a typing that has none yet, or the fault of its tokens.
+fn outlook_of<'a>(
+    alloc: Global,
+    typing: &mut Typing<'a>,
+    text: &'a [u8],
+) -> Result<Outlook, TextError>
+    requires few { length text.now ≤ size_limit }
+    requires new { IsTypingOf [] typing.old }
+    ensures outlook { IfOk result (IsOutlookOf text.now typing.new) }
+    ensures fault { IfErr result (λ e. IsRefusedText e text.now) }
+{
+    let mut cursor = Cursor::of(text);
+    let items = read_items(alloc, typing, &mut cursor)?;
+    match cursor.fault(items.next) {
+        Some(fault) => Err(TextError::Fault(Fault::Syntax(fault))),
+        None => Ok(items.outlook),
+    }
+}
+
 /// Types the items of a text into a typing that has none yet, or gives the first fault of its tokens, its items'
 /// grammar or their types.
 fn type_items<'a>(alloc: Global, typing: &mut Typing<'a>, text: &'a [u8]) -> Result<(), TextError>
@@ -29,12 +48,8 @@ fn type_items<'a>(alloc: Global, typing: &mut Typing<'a>, text: &'a [u8]) -> Res
     ensures typed { OnOk result (HasTypedText text.now typing.new) }
     ensures fault { IfErr result (λ e. IsRefusedText e text.now) }
 {
-    let mut cursor = Cursor::of(text);
-    let items = read_items(alloc, typing, &mut cursor)?;
-    if let Some(fault) = cursor.fault(items.next) {
-        return Err(TextError::Fault(Fault::Syntax(fault)));
-    }
-    match items.outlook {
+    let outlook = outlook_of(alloc, typing, text)?;
+    match outlook {
         Outlook::Typed => Ok(()),
         Outlook::Mistyped(fault) => Err(TextError::Fault(Fault::Types(fault))),
         Outlook::Ungrammatical(fault) => Err(TextError::Fault(Fault::Syntax(fault))),

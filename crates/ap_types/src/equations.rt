@@ -6,7 +6,7 @@ ghost use Rattle.ap_types.specs.Equations.{equation_of, bound_of, equations_boun
 ghost use Rattle.ap_types.specs.Assignments.{AreNames, IsUnsolvable, name_equation, name_equations, Narrows};
 ghost use Rattle.ap_types.specs.Triangular.{shapes_of_nodes, AreFormed, IsSettledTable, assignment_of};
 ghost use Rattle.ap_types.specs.Loading.{own_bound};
-ghost use Rattle.ap_types.specs.Joining.{ArePairsWithin, NeverAgree, LoadsSystem, Settles};
+ghost use Rattle.ap_types.specs.Joining.{ArePairsWithin, BeginsSystem, NeverAgree, LoadsSystem, Settles};
 ghost use Rattle.ap_types.specs.Walking.{AreInOrder};
 
 use crate::errors::TypesError;
@@ -14,11 +14,10 @@ use crate::joining::{join_all, shorten_all};
 use crate::loading::{Loaded, load_all, open_places};
 use crate::nodes::Node;
 use crate::parts::push_parts;
-use crate::solved::{Solved, are_names_or_holes, written_out};
+use crate::solved::{Solved, are_names_or_holes};
 use crate::walking::in_order;
-use ap_defs::lists::List;
 use ap_defs::memory::Memory;
-use ap_defs::terms::{Assignment, Shape};
+use ap_defs::terms::Shape;
 use std::alloc::Global;
 
 /// The greater of two numbers.
@@ -172,11 +171,8 @@ fn begun(
     names: &[u64],
     name_types: u32,
 ) -> Result<Unsolved, Memory>
-    ensures holes { IfOk result (λ b. b.holes
-        ≡ hole_count (map equation_of equations.now) names.now) }
-    ensures loads { IfOk result (λ b. LoadsSystem (map equation_of equations.now)
-        (name_equations name_types names.now) b.holes (shapes_of_nodes b.loaded.nodes.items)
-        b.loaded.pairs.items) }
+    ensures { IfOk result (λ b. BeginsSystem (map equation_of equations.now) names.now name_types
+        b.holes (shapes_of_nodes b.loaded.nodes.items) b.loaded.pairs.items) }
 {
     let in_equations = bound_in_equations(alloc, equations)?;
     let in_names = bound_in_names(names)?;
@@ -192,11 +188,8 @@ fn begun_of(
     names: &[u64],
     name_types: u32,
 ) -> Result<Unsolved, Memory>
-    ensures holes { IfOk result (λ b. b.holes
-        ≡ hole_count (map equation_of equations.items) names.now) }
-    ensures loads { IfOk result (λ b. LoadsSystem (map equation_of equations.items)
-        (name_equations name_types names.now) b.holes (shapes_of_nodes b.loaded.nodes.items)
-        b.loaded.pairs.items) }
+    ensures { IfOk result (λ b. BeginsSystem (map equation_of equations.items) names.now name_types
+        b.holes (shapes_of_nodes b.loaded.nodes.items) b.loaded.pairs.items) }
 {
     begun(alloc, equations.as_slice(), names, name_types)
 }
@@ -260,39 +253,4 @@ pub fn solved(
         return Err(TypesError::Clash);
     }
     Ok(solved)
-}
-
-/// The most general assignment of types to the holes of equations.
-///
-/// The holes are the numbers from 0 to the greatest that stands in `equations` or `names`; those in
-/// `names` are to be name types, of which `name_types` are declared. The assignment has a shape for each
-/// hole, in order; a hole that is left in it is undetermined. Where one name type is declared, a hole in
-/// `names` that nothing else fixes is that one. `Clash` comes exactly where no assignment solves the
-/// equations; `Memory` is want of memory. The left part of an abstraction is not forced to be a name
-/// type by itself. This is first-order unification after Robinson, over a table in which equal parts
-/// stand once, after Huet; the shapes that are given may be exponentially larger than the equations.
-pub fn solve(
-    alloc: Global,
-    equations: Vec<(Shape, Shape)>,
-    names: &[u64],
-    name_types: u32,
-) -> Result<Assignment, TypesError>
-    ensures in_order { IfOk result (λ a. length a.holes
-        ≡ hole_count (map equation_of equations.items) names.now) }
-    ensures most_general { IfOk result (λ a. (f : Filling) →
-        IsSolution (map equation_of equations.items) names.now name_types f
-        ↔ (IsShapeInstance (map shape_of a.holes) f × GivesNames name_types f names.now)) }
-    ensures constrained { IfOk result (λ a. AreNames name_types (map shape_of a.holes) names.now) }
-
-    // An assignment that is given has a solution, so a clash is never left out.
-    ensures solvable { IfOk result (λ a. (f : Filling)
-        × IsSolution (map equation_of equations.items) names.now name_types f) }
-    ensures clash { IfErr result (λ e. e ≡ TypesError.Clash →
-        IsUnsolvable (map equation_of equations.items) names.now name_types) }
-{
-    let solved = solved(alloc, equations, names, name_types)?;
-    let holes = written_out(alloc, &solved)?;
-    Ok(Assignment {
-        holes: List::of(holes),
-    })
 }
