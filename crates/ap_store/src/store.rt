@@ -91,6 +91,7 @@ impl<'a> Store<'a> {
 
     /// Gives a number to each of these identifiers, in order, and answers the first. After want of
     /// memory the store is as before; `2 ^ 32` numbers and more are such a want.
+    #[inline(always)]
     pub fn make(&mut self, locals: &'a [Local]) -> Result<u64, Memory>
         ensures first { IfOk result (λ n. n ≡ (present self.old).next) }
         ensures kinds { OnOk result (kinds self.new
