@@ -67,7 +67,7 @@ first_then_rest letter words count tried j r free numbers e all next is =
     let firsts : made ≡ take count (rest_of_words letter words 1 tried) =
     ap (numbered_words letter) is ∙ map_take (λ k. letter ++ decimal k) count free ∙ ap (λ ks. take count (numbered_words letter ks)) e ∙ ap (take count) (free_words letter words 1 tried)
     in
-    let few : count - length numbers ≡ count - length (take count (rest_of_words letter words 1 tried)) = ap (λ n. count - n) (sym (length-map (λ k. letter ++ decimal k) numbers)) ∙ ap (λ (ws : List (List ℕ)). count - length ws) firsts in
+    let few : count - length numbers ≡ count - length (take count (rest_of_words letter words 1 tried)) = ap (λ n. count - n) (sym (length-map numbers (λ (k : ℕ). letter ++ decimal k))) ∙ ap (λ (ws : List (List ℕ)). count - length ws) firsts in
     let both = take_both count (count - length numbers) (rest_of_words letter words 1 tried) (rest_of_words letter words j r) few in
     ap (λ (ws : List (List ℕ)). ws ++ take (count - length numbers) (rest_of_words letter words j r)) firsts ∙ both ∙ ap (take count) (sym (split_words letter words 1 tried r (count + length words) j (sym all) (omega arith)))
 
@@ -82,8 +82,8 @@ numbers_next letter words known count i n m numbers numbers1 all same s few want
     let made : numbered_words letter numbers1 ≡ numbered_words letter numbers ++ filter (λ w. not (known w)) ((letter ++ decimal i) ∷ []) =
     ap (numbered_words letter) e ∙ map-append f numbers kept ∙ ap (λ (ws : List (List ℕ)). numbered_words letter numbers ++ ws) (kept_words f (not (known (letter ++ decimal i))) i [] [] refl)
     in
-    let as_long : length (numbered_words letter numbers) ≡ length numbers = length-map f numbers in
-    let as_long1 : length (numbered_words letter numbers1) ≡ length numbers1 = length-map f numbers1 in
+    let as_long : length (numbered_words letter numbers) ≡ length numbers = length-map numbers f in
+    let as_long1 : length (numbered_words letter numbers1) ≡ length numbers1 = length-map numbers1 f in
     let next =
     tried_next letter words known count i n m (numbered_words letter numbers) (numbered_words letter numbers1) all same s (rw as_long few) (rw as_long wanting) made (rw as_long h)
     in

@@ -1,6 +1,9 @@
 -- The spelling of a table, and the spelling of an answer.
 use Rattle.std.proofs.Common.{◌≡◌, ℕ, zero, suc, ◌+◌, ◌-◌, Bool, true, false, cond, List, [], ◌∷◌, ◌++◌, length, nat_lt, refl, ap, ap₂, ◌∙◌, arith, length-append}
-use Rattle.std.specs.Prelude.{if◌then◌else◌, position, Option, Some, None, codes}
+use Rattle.std.specs.Prelude.{if◌then◌else◌, position, Option, Some, None, codes, slice_get, unwrap_or}
+use Rattle.std.specs.Option.{option_map}
+use Rattle.std.specs.Fmt.{decimal}
+use Rattle.std.proofs.lemmas.Option.{slice_get-map}
 use Rattle.std.specs.List.{position_or_len}
 use Rattle.std.proofs.lemmas.Bool.Decides.{nat_tests}
 use mathlib.Core.Path.{fun_ext}
@@ -15,6 +18,7 @@ use Rattle.ap_defs.specs.Renaming.{local_names, name_unless}
 use Rattle.ap_defs.specs.Printing.{Spelling, name_word, var_word, new_words}
 use Rattle.ap_defs.specs.Lines.{NominalShown, spelling_for, name_texts, text_of_name}
 use Rattle.ap_answers.specs.Spelled.{text_at}
+use Rattle.ap_answers.specs.Words.{numbered_words}
 use Rattle.ap_answers.proofs.ConditionLemmas.{name_flips, var_flips}
 
 -- the text at the first place, or at a later one

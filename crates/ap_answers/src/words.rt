@@ -1,6 +1,6 @@
 //! Generated words.
 
-ghost use Rattle.std.specs.Prelude.{◌≡◌, ◌≤◌, ℕ, List as list, [], ◌∷◌, ◌++◌, false, not, codes, filter, decimal, length, IfOk, OnOk};
+ghost use Rattle.std.specs.Prelude.{◌≡◌, ◌≤◌, ℕ, List as list, [], ◌∷◌, ◌++◌, false, not, codes, filter, decimal, length, take, IfOk, OnOk};
 ghost use Rattle.ap_defs.specs.Printing.{has_word, new_words};
 ghost use Rattle.ap_answers.specs.Words.{knows, numbered_words, AreFree, IsTaken};
 

@@ -5,7 +5,7 @@ use Rattle.ap_answers.proofs.words.generated_numbers.Goals as goal
 
 pub loop-i-preserved : goal.loop-i-preserved
 loop-i-preserved c =
-    let limit = c.args.count + length c.args.words.now in
+    let limit = c.in-Some.limit in
     let one : limit - c.loop-i.i ≡ suc (limit - (c.loop-i.i + 1)) = omega arith in
     let wanting : length c.loop-i.numbers.items ≢ c.args.count = omega arith in
     let next =
@@ -17,12 +17,12 @@ loop-i-preserved c =
 pub loop-i-init : goal.loop-i-init
 loop-i-init c =
     let tried = c.args.free.now.tried in
-    let all = c.args.count + length c.args.words.now in
+    let limit = c.in-Some.limit in
     let below : tried ≤ length c.args.words.now = c.requires.free.1 in
-    let both : tried + (all - tried) ≡ all = omega arith in
+    let both : tried + (limit - tried) ≡ c.args.count + length c.args.words.now = omega arith in
     record {
       all =
-          first_then_rest c.args.letter.now c.args.words.now c.args.count tried (tried + 1) (all - tried) c.as_slice.result.now c.in_ok-numbers.numbers.items
+          first_then_rest c.args.letter.now c.args.words.now c.args.count tried (tried + 1) (limit - tried) c.as_slice.result.now c.in_ok-numbers.numbers.items
           (c.as_slice.ensures.value ∙ c.requires.free.0) both refl c.in_ok-numbers.ensures;
       few = first_few c.args.count c.as_slice.result.now c.in_ok-numbers.numbers.items c.in_ok-numbers.ensures;
     }
