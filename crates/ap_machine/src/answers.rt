@@ -12,7 +12,7 @@ ghost use Rattle.ap_machine.specs.Views.{state_in};
 ghost use Rattle.ap_store.specs.Views.{kinds};
 
 use crate::brought::Brought;
-use crate::closing::closed_from;
+use crate::chains::closed;
 use crate::renaming::vars_of_locals;
 use crate::unbound::unbound_of;
 use crate::vars::{add_vars_of_conds, add_vars_of_terms, make_ascending};
@@ -25,27 +25,6 @@ use ap_defs::terms::{Cond, Term, Ty, Var};
 use ap_perm::closures::Closure;
 use ap_store::store::Store;
 use std::alloc::Global;
-
-/// What a variable stands for, with canonical lists.
-pub fn closed_var<'a>(alloc: Global, store: &Store<'a>, x: Var) -> Result<Term, Memory>
-    ensures { IfOk result (λ t. term_of t ≡ closed_term (state_in store.now) (susp [] x)) }
-{
-    match store.binding(x) {
-        None => Ok(Term::Susp(Swaps::none(alloc)?, x)),
-        Some(bound) => closed_from(alloc, store, bound),
-    }
-}
-
-/// What variables stand for, with canonical lists.
-pub fn closed(alloc: Global, store: &Store<'_>, vars: &[Var]) -> Result<Vec<Term>, Memory>
-    ensures { IfOk result (λ v. map term_of v.items ≡ closed_vars (state_in store.now) vars.now) }
-{
-    let mut terms = Vec::new(alloc);
-    'closing: for x in vars {
-        terms.push(closed_var(alloc, store, *x)?)?;
-    }
-    Ok(terms)
-}
 
 /// The set of the variables of bindings, of conditions and of further ones.
 fn vars_among(
