@@ -2,10 +2,9 @@
 
 ghost use Rattle.std.specs.Prelude.{◌≡◌, ◌<◌, ◌^◌, [], IfOk, length, map};
 ghost use Rattle.std.specs.Option.{option_to_list};
-ghost use Rattle.ap_defs.specs.Answers.{answer_of, closed_term, kind_at, typed_var_of, typed_vars, with_type};
-ghost use Rattle.ap_defs.specs.Terms.{susp, term_of};
+ghost use Rattle.ap_defs.specs.Answers.{answer_of, kind_at, typed_var_of, typed_vars, with_type};
+ghost use Rattle.ap_defs.specs.Terms.{term_of};
 ghost use Rattle.ap_defs.specs.Types.{locals_of};
-ghost use Rattle.ap_search.specs.Records.{closed_vars};
 ghost use Rattle.ap_machine.specs.Brought.{vars_of_brought};
 ghost use Rattle.ap_machine.specs.Unbound.{answer_by_unbound, vars_besides};
 ghost use Rattle.ap_machine.specs.Views.{state_in};
@@ -18,7 +17,7 @@ use crate::unbound::unbound_of;
 use crate::vars::{add_vars_of_conds, add_vars_of_terms, make_ascending};
 use ap_defs::copies::copy_type;
 use ap_defs::goals::{Kind, Local};
-use ap_defs::lists::{List, Swaps};
+use ap_defs::lists::List;
 use ap_defs::memory::Memory;
 use ap_defs::outcomes::Answer;
 use ap_defs::terms::{Cond, Term, Ty, Var};
