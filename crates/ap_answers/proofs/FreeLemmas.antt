@@ -1,11 +1,11 @@
 -- Numbers with which a letter is no word of a text, and the words that are generated from them.
-use Rattle.std.proofs.Common.{◌≡◌, ℕ, zero, suc, ◌+◌, ◌-◌, ◌≤◌, Bool, true, false, cond, List, [], ◌∷◌, ◌++◌, map, length, take, drop, get_or, refl, sym, ap, ◌∙◌, arith, add-one, drop-cons, append_assoc, ◌<◌, length-append}
-use Rattle.std.proofs.lemmas.List.{append-nil}
+use Rattle.std.proofs.Common.{◌≡◌, ℕ, zero, suc, ◌+◌, ◌-◌, ◌≤◌, Bool, true, false, cond, List, [], ◌∷◌, ◌++◌, map, length, take, refl, sym, ap, ◌∙◌, arith, append_assoc, ◌≢◌}
+use Rattle.std.proofs.lemmas.List.{append-nil, length-map, map-append}
 use Rattle.std.specs.Prelude.{filter, not}
 use Rattle.std.specs.Fmt.{decimal}
 use Rattle.ap_defs.specs.Printing.{has_word, new_words}
-use Rattle.ap_answers.specs.Words.{free_numbers, first_words}
-use Rattle.ap_answers.proofs.WordLemmas.{rest_of_words}
+use Rattle.ap_answers.specs.Words.{free_numbers, numbered_words}
+use Rattle.ap_answers.proofs.WordLemmas.{rest_of_words, tried_next}
 
 kept : (b : Bool) (numbers numbers1 rest all : List ℕ) (k : ℕ) → numbers1 ≡ numbers ++ cond (not b) (k ∷ []) []
     → numbers ++ cond (not b) (k ∷ rest) rest ≡ all → numbers1 ++ rest ≡ all
@@ -59,44 +59,42 @@ take_both (suc n) k [] ys e = let all : k ≡ suc n = omega arith in rw all refl
 take_both (suc n) k (x ∷ xs) ys e = ap (λ (ws : List (List ℕ)). x ∷ ws) (take_both n k xs ys (omega arith))
 
 -- the words of the first free numbers, and as many of those behind them as are wanting, are the generated ones
-pub first_then_rest : (letter : List ℕ) (words : List (List ℕ)) (count tried j r : ℕ) (numbers : List ℕ) (made : List (List ℕ)) → numbers ≡ free_numbers letter words 1 tried
-    → tried + r ≡ count + length words → j ≡ tried + 1 → made ≡ first_words letter count numbers
-    → made ++ take (count - length made) (rest_of_words letter words j r) ≡ new_words letter words count
-first_then_rest letter words count tried j r numbers made e all next is =
+pub first_then_rest : (letter : List ℕ) (words : List (List ℕ)) (count tried j r : ℕ) (free numbers : List ℕ) → free ≡ free_numbers letter words 1 tried
+    → tried + r ≡ count + length words → j ≡ tried + 1 → numbers ≡ take count free
+    → numbered_words letter numbers ++ take (count - length numbers) (rest_of_words letter words j r) ≡ new_words letter words count
+first_then_rest letter words count tried j r free numbers e all next is =
+    let made = numbered_words letter numbers in
     let firsts : made ≡ take count (rest_of_words letter words 1 tried) =
-    is ∙ map_take (λ k. letter ++ decimal k) count numbers ∙ ap (λ ks. take count (map (λ k. letter ++ decimal k) ks)) e ∙ ap (take count) (free_words letter words 1 tried)
+    ap (numbered_words letter) is ∙ map_take (λ k. letter ++ decimal k) count free ∙ ap (λ ks. take count (numbered_words letter ks)) e ∙ ap (take count) (free_words letter words 1 tried)
     in
-    let both = take_both count (count - length made) (rest_of_words letter words 1 tried) (rest_of_words letter words j r) (ap (λ (ws : List (List ℕ)). count - length ws) firsts) in
-    ap (λ (ws : List (List ℕ)). ws ++ take (count - length made) (rest_of_words letter words j r)) firsts ∙ both ∙ ap (take count) (sym (split_words letter words 1 tried r (count + length words) j (sym all) (omega arith)))
+    let few : count - length numbers ≡ count - length (take count (rest_of_words letter words 1 tried)) = ap (λ n. count - n) (sym (length-map (λ k. letter ++ decimal k) numbers)) ∙ ap (λ (ws : List (List ℕ)). count - length ws) firsts in
+    let both = take_both count (count - length numbers) (rest_of_words letter words 1 tried) (rest_of_words letter words j r) few in
+    ap (λ (ws : List (List ℕ)). ws ++ take (count - length numbers) (rest_of_words letter words j r)) firsts ∙ both ∙ ap (take count) (sym (split_words letter words 1 tried r (count + length words) j (sym all) (omega arith)))
 
--- one word more of the first
-pub first_next : (letter : List ℕ) (numbers : List ℕ) (i count number other : ℕ) (made made1 all : List (List ℕ)) → i < length numbers → number ≡ get_or numbers i other → length made < count
-    → made1 ≡ made ++ (letter ++ decimal number) ∷ [] → made ++ first_words letter (count - length made) (drop i numbers) ≡ all
-    → made1 ++ first_words letter (count - length made1) (drop (i + 1) numbers) ≡ all
-first_next letter numbers i count number other made made1 all h e few is invariant =
-    let front : drop i numbers ≡ number ∷ drop (suc i) numbers = drop-cons numbers i other h ∙ ap (λ (x : ℕ). x ∷ drop (suc i) numbers) (sym e) in
-    let longer : length made1 ≡ length made + 1 = ap length is ∙ length-append made ((letter ++ decimal number) ∷ []) in
-    let step : count - length made ≡ suc (count - length made1) = omega arith in
-    let split : made ++ ((letter ++ decimal number) ∷ first_words letter (count - length made1) (drop (suc i) numbers)) ≡ all =
-    ap (λ n. made ++ first_words letter n (number ∷ drop (suc i) numbers)) (sym step) ∙ ap (λ ks. made ++ first_words letter (count - length made) ks) (sym front) ∙ invariant
+-- one number more of those whose words are generated
+pub numbers_next : (letter : List ℕ) (words : List (List ℕ)) (known : List ℕ → Bool) (count i n m : ℕ) (numbers numbers1 : List ℕ) (all : List (List ℕ)) → ((w : List ℕ) → known w ≡ has_word w words)
+    → n ≡ suc m → length numbers ≤ count → length numbers ≢ count → numbers1 ≡ numbers ++ filter (λ k. not (known (letter ++ decimal k))) (i ∷ [])
+    → numbered_words letter numbers ++ take (count - length numbers) (rest_of_words letter words i n) ≡ all
+    → (numbered_words letter numbers1 ++ take (count - length numbers1) (rest_of_words letter words (i + 1) m) ≡ all) × (length numbers1 ≤ count)
+numbers_next letter words known count i n m numbers numbers1 all same s few wanting e h =
+    let f : ℕ → List ℕ = λ k. letter ++ decimal k in
+    let kept : List ℕ = filter (λ k. not (known (letter ++ decimal k))) (i ∷ []) in
+    let made : numbered_words letter numbers1 ≡ numbered_words letter numbers ++ filter (λ w. not (known w)) ((letter ++ decimal i) ∷ []) =
+    ap (numbered_words letter) e ∙ map-append f numbers kept ∙ ap (λ (ws : List (List ℕ)). numbered_words letter numbers ++ ws) (kept_words f (not (known (letter ++ decimal i))) i [] [] refl)
     in
-    rw (add-one i) (ap (λ (ws : List (List ℕ)). ws ++ first_words letter (count - length made1) (drop (suc i) numbers)) is
-    ∙ append_assoc made ((letter ++ decimal number) ∷ []) (first_words letter (count - length made1) (drop (suc i) numbers)) ∙ split)
+    let as_long : length (numbered_words letter numbers) ≡ length numbers = length-map f numbers in
+    let as_long1 : length (numbered_words letter numbers1) ≡ length numbers1 = length-map f numbers1 in
+    let next =
+    tried_next letter words known count i n m (numbered_words letter numbers) (numbered_words letter numbers1) all same s (rw as_long few) (rw as_long wanting) made (rw as_long h)
+    in
+    (rw as_long1 at next.0, rw as_long1 at next.1)
 
-no_words : (letter : List ℕ) (numbers : List ℕ) → first_words letter 0 numbers ≡ []
-no_words letter [] = refl
-no_words letter (k ∷ ks) = refl
-
--- none are left to take
-pub first_all : (letter : List ℕ) (n : ℕ) (numbers : List ℕ) (made all : List (List ℕ)) → n ≡ 0 → made ++ first_words letter n numbers ≡ all → made ≡ all
-first_all letter n numbers made all e h = let none : first_words letter 0 numbers ≡ [] = no_words letter numbers in sym (append-nil made) ∙ ap (λ (ws : List (List ℕ)). made ++ ws) (sym none) ∙ ap (λ k. made ++ first_words letter k numbers) (sym e) ∙ h
-
-short : (letter : List ℕ) (n : ℕ) (numbers : List ℕ) → length (first_words letter n numbers) ≤ n
-short letter zero [] = omega arith
-short letter zero (k ∷ ks) = omega arith
-short letter (suc n) [] = omega arith
-short letter (suc n) (k ∷ ks) = let rest = short letter n ks in omega arith
+short : (n : ℕ) (numbers : List ℕ) → length (take n numbers) ≤ n
+short zero [] = omega arith
+short zero (k ∷ ks) = omega arith
+short (suc n) [] = omega arith
+short (suc n) (k ∷ ks) = let rest = short n ks in omega arith
 
 -- they are no more than so many
-pub first_few : (letter : List ℕ) (n : ℕ) (numbers : List ℕ) (made : List (List ℕ)) → made ≡ first_words letter n numbers → length made ≤ n
-first_few letter n numbers made e = rw e (short letter n numbers)
+pub first_few : (n : ℕ) (free numbers : List ℕ) → numbers ≡ take n free → length numbers ≤ n
+first_few n free numbers e = rw e (short n free)

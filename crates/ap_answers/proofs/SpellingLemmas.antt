@@ -77,3 +77,14 @@ spells program locals s keys vars texts made var_texts k v t m w =
     ap₂ (λ names vars'. let by : Spelling = record { names = names; vars = vars'; constructors = program.signature.constructors } in by)
     (fun_ext (λ a. rw (t, m, others, k) (all_names_spelled (local_names zero locals) s.names (name_texts locals) (new_words (codes "n") program.words (length s.names)) a (as_many_texts zero locals))))
     (fun_ext (λ x. rw (w, v) (vars_spelled s.vars (new_words (codes "_") program.words (length s.vars)) x)))
+
+-- the text at a place of numbered_words words
+pub numbered_there : (letter numbers : List ℕ) (i number : ℕ) → slice_get numbers i ≡ Some number → text_at (numbered_words letter numbers) (Some i) ≡ letter ++ decimal number
+numbered_there letter numbers i number e =
+    let f : ℕ → List ℕ = λ k. letter ++ decimal k in
+    ap (λ (o : Option (List ℕ)). unwrap_or o []) (slice_get-map f numbers i ∙ ap (option_map f) e)
+
+pub numbered_past : (letter numbers : List ℕ) (i : ℕ) → slice_get numbers i ≡ None → text_at (numbered_words letter numbers) (Some i) ≡ []
+numbered_past letter numbers i e =
+    let f : ℕ → List ℕ = λ k. letter ++ decimal k in
+    ap (λ (o : Option (List ℕ)). unwrap_or o []) (slice_get-map f numbers i ∙ ap (option_map f) e)

@@ -1,10 +1,18 @@
 -- The spelling that a table gives: the text at the place of a name or a variable.
-use Rattle.std.specs.Prelude.{ℕ, List, [], Option, Some, None, map, slice_get, unwrap_or, position}
+use Rattle.std.specs.Prelude.{ℕ, List, [], Option, Some, None, map, slice_get, unwrap_or, position, codes}
 use Rattle.ap_defs.specs.Permutations.{name_eq}
 use Rattle.ap_defs.specs.Freshness.{var_eq}
 use Rattle.ap_defs.specs.Types.{constructor_of}
 use Rattle.ap_defs.specs.Printing.{Spelling}
+use Rattle.ap_answers.specs.Words.{numbered_words}
 use Rattle.ap_answers.specs.declared.speller.Speller.{Speller}
+use Rattle.ap_answers.specs.declared.speller.VarTexts.{VarTexts}
+use Rattle.ap_answers.specs.declared.speller.VarTexts.TheVariants as texts
+
+-- the texts, one by one
+abbrev pub texts_of : VarTexts → List (List ℕ)
+texts_of (texts.Written ts) = ts.items
+texts_of (texts.Numbered ns) = numbered_words (codes "_") ns.items
 
 abbrev pub text_at : List (List ℕ) → Option ℕ → List ℕ
 text_at texts None = []
@@ -13,6 +21,6 @@ text_at texts (Some i) = unwrap_or (slice_get texts i) []
 abbrev pub spelling_in : Speller → Spelling
 spelling_in s = record {
   names = λ a. text_at s.name_texts.items (position (name_eq a) s.names.now.keys);
-  vars = λ x. text_at s.var_texts.items (position (var_eq x) s.vars.now.keys);
+  vars = λ x. text_at (texts_of s.var_texts) (position (var_eq x) s.vars.now.keys);
   constructors = map constructor_of s.constructors.now;
 }

@@ -1,5 +1,5 @@
 -- A set of words that are lent, and what is known of words that are generated.
-use Rattle.std.specs.Prelude.{◌≡◌, ℕ, ◌≤◌, ◌++◌, Bool, List, map, filter, not, codes, decimal, length, take}
+use Rattle.std.specs.Prelude.{◌≡◌, ℕ, ◌≤◌, ◌++◌, Bool, List, map, filter, not, codes, decimal, length}
 use Rattle.std.specs.Str.{bytes_eq}
 use Rattle.std.specs.List.{range_with_len}
 use Rattle.std.specs.HashSet.{HashSet, contains_by}
@@ -15,9 +15,9 @@ knows set w = contains_by (λ k. bytes_eq w k.now) set
 abbrev pub free_numbers : List ℕ → List (List ℕ) → ℕ → ℕ → List ℕ
 free_numbers letter words i n = filter (λ k. not (has_word (letter ++ decimal k) words)) (range_with_len i n)
 
--- the words of a letter with the first so many of these numbers
-abbrev pub first_words : List ℕ → ℕ → List ℕ → List (List ℕ)
-first_words letter n numbers = map (λ k. letter ++ decimal k) (take n numbers)
+-- the words of a letter with these numbers
+abbrev pub numbered_words : List ℕ → List ℕ → List (List ℕ)
+numbered_words letter numbers = map (λ k. letter ++ decimal k) numbers
 
 abbrev pub AreFree : List ℕ → List (List ℕ) → Free → Type 0
 AreFree letter words f = (f.numbers.items ≡ free_numbers letter words 1 f.tried) × (f.tried ≤ length words)

@@ -42,7 +42,7 @@ pub fn variable_texts(alloc: Global, locals: &[Local]) -> Result<Vec<&Text>, Mem
     let mut texts = Vec::new(alloc);
     for local in locals {
         if is_variable(local) {
-            texts.push(&local.text)?;
+            texts.push(local.text.text())?;
         }
     }
     Ok(texts)
@@ -55,7 +55,7 @@ pub fn free_name_texts(alloc: Global, locals: &[Local]) -> Result<Vec<Text>, Mem
     let mut texts = Vec::new(alloc);
     for local in locals {
         if sort_of(local).is_some() {
-            texts.push(local.text.copy(alloc)?)?;
+            texts.push(local.text.text().copy(alloc)?)?;
         }
     }
     Ok(texts)

@@ -1,21 +1,28 @@
 //! How the names, variables and constructors of an answer are spelled.
 
-ghost use Rattle.std.specs.Prelude.{◌≡◌, zero, ◌++◌, Some, OnOk, IfOk};
+ghost use Rattle.std.specs.Prelude.{◌≡◌, zero, ◌++◌, Some, codes, OnOk, IfOk};
 ghost use Rattle.ap_defs.specs.Types.{locals_of};
 ghost use Rattle.ap_defs.specs.Goals.{program_of};
 ghost use Rattle.ap_defs.specs.Renaming.{local_names};
 ghost use Rattle.ap_defs.specs.Lines.{NominalShown, spelling_for};
-ghost use Rattle.ap_answers.specs.Words.{IsTaken};
-ghost use Rattle.ap_answers.specs.Spelled.{spelling_in, text_at};
+ghost use Rattle.ap_answers.specs.Words.{IsTaken, numbered_words};
+ghost use Rattle.ap_answers.specs.Spelled.{spelling_in, text_at, texts_of};
 
 use crate::locals::free_name_texts;
-use crate::words::{Taken, generated};
+use crate::words::{Taken, generated, generated_numbers};
 use ap_defs::goals::{Constructor, Local, Program};
 use ap_defs::lists::Text;
 use ap_defs::memory::Memory;
 use ap_defs::terms::{Name, Term, Var};
 use indexmap::IndexSet;
 use std::alloc::Global;
+
+/// The texts of variables: as they are written, or as the numbers of `_1`, `_2` and so on, which take less room.
+#[derive(Drop)]
+pub enum VarTexts {
+    Written(Vec<Text>),
+    Numbered(Vec<u64>),
+}
 
 /// The names and the variables that are written, each with its text at the same place, and the
 /// declared constructors.
@@ -24,7 +31,7 @@ pub struct Speller<'a> {
     pub names: &'a IndexSet<Name>,
     pub name_texts: Vec<Text>,
     pub vars: &'a IndexSet<Var>,
-    pub var_texts: Vec<Text>,
+    pub var_texts: VarTexts,
     pub constructors: &'a [Constructor],
 }
 
@@ -36,6 +43,31 @@ fn write_at(out: &mut Vec<u8>, texts: &[Text], place: usize) -> Result<(), Memor
         out.extend_from_slice(text.as_str().as_bytes())?;
     }
     Ok(())
+}
+
+/// Writes `_` with the number at this place, if there is one.
+#[tactic(auto, using(crate::proofs::SpellingLemmas::numbered_there, crate::proofs::SpellingLemmas::numbered_past))]
+fn write_numbered_at(out: &mut Vec<u8>, numbers: &[u64], place: usize) -> Result<(), Memory>
+    ensures { OnOk result (out.new.items
+        ≡ out.old.items ++ text_at (numbered_words (codes "_") numbers.now) (Some place)) }
+{
+    if let Some(number) = numbers.get(place) {
+        let alloc = *out.allocator();
+        let word = format!(in alloc; "_{number}")?;
+        out.extend_from_slice(word.as_bytes())?;
+    }
+    Ok(())
+}
+
+/// Writes the text of the variable at this place, if there is one.
+fn write_var_at(out: &mut Vec<u8>, texts: &VarTexts, place: usize) -> Result<(), Memory>
+    ensures { OnOk result (out.new.items
+        ≡ out.old.items ++ text_at (texts_of texts.now) (Some place)) }
+{
+    match texts {
+        VarTexts::Written(written) => write_at(out, written.as_slice(), place),
+        VarTexts::Numbered(numbers) => write_numbered_at(out, numbers.as_slice(), place),
+    }
 }
 
 impl Speller<'_> {
@@ -55,7 +87,7 @@ impl Speller<'_> {
         ensures { OnOk result (out.new.items ≡ out.old.items ++ (spelling_in self.now).vars var) }
     {
         if let Some(place) = self.vars.get_index_of(&var) {
-            write_at(out, self.var_texts.as_slice(), place)?;
+            write_var_at(out, &self.var_texts, place)?;
         }
         Ok(())
     }
@@ -82,13 +114,13 @@ pub fn speller_for<'a>(
     let others = names.len().saturating_sub(name_texts.len());
     let mut made = generated(alloc, "n", words, &taken.words, &taken.names, others)?;
     name_texts.append(&mut made)?;
-    let var_texts = generated(alloc, "_", words, &taken.words, &taken.vars, vars.len())?;
+    let numbers = generated_numbers(alloc, "_", words, &taken.words, &taken.vars, vars.len())?;
     let constructors = program.signature.constructors.items();
     Ok(Speller {
         names,
         name_texts,
         vars,
-        var_texts,
+        var_texts: VarTexts::Numbered(numbers),
         constructors,
     })
 }

@@ -2,7 +2,7 @@
 
 ghost use Rattle.std.specs.Prelude.{◌≡◌, ◌≤◌, ℕ, List as list, [], ◌∷◌, ◌++◌, false, not, codes, filter, decimal, length, IfOk, OnOk};
 ghost use Rattle.ap_defs.specs.Printing.{has_word, new_words};
-ghost use Rattle.ap_answers.specs.Words.{knows, first_words, AreFree, IsTaken};
+ghost use Rattle.ap_answers.specs.Words.{knows, numbered_words, AreFree, IsTaken};
 
 use ap_defs::lists::Text;
 use ap_defs::memory::Memory;
@@ -108,6 +108,45 @@ pub fn taken_words<'a>(alloc: Global, words: &'a [Text]) -> Result<Taken<'a>, Me
     })
 }
 
+/// The first so many of these numbers.
+fn first_of(alloc: Global, numbers: &[u64], count: usize) -> Result<Vec<u64>, Memory>
+    ensures { IfOk result (λ v. v.items ≡ take count numbers.now) }
+{
+    if numbers.len() <= count {
+        return Ok(numbers.to_vec(alloc)?);
+    }
+    let (first, _others) = numbers.split_at(count);
+    Ok(first.to_vec(alloc)?)
+}
+
+/// The numbers of the first so many words among a letter with 1, 2, 3 and so on that are not taken, of which there
+/// are enough below that number and the number of words that are taken. `free` has the first of these numbers.
+pub fn generated_numbers(
+    alloc: Global,
+    letter: &str,
+    words: &[Text],
+    taken: &HashSet<&str>,
+    free: &Free,
+    count: usize,
+) -> Result<Vec<u64>, Memory>
+    requires taken { (w : list ℕ) → knows taken.now w ≡ has_word w words.now }
+    requires free { AreFree letter.now words.now free.now }
+    ensures { IfOk result (λ v. numbered_words letter.now v.items
+        ≡ new_words letter.now words.now count) }
+{
+    let Some(limit) = count.checked_add(words.len()) else {
+        return Err(Memory);
+    };
+    let mut numbers = first_of(alloc, free.numbers.as_slice(), count)?;
+    for i in free.tried..limit {
+        if numbers.len() == count {
+            break;
+        }
+        keep_number(alloc, &mut numbers, letter, i as u64 + 1, taken)?;
+    }
+    Ok(numbers)
+}
+
 /// Adds the word of a letter and a number.
 fn push_word(alloc: Global, made: &mut Vec<Text>, letter: &str, number: u64) -> Result<(), Memory>
     ensures { OnOk result (made.new.items
@@ -118,46 +157,19 @@ fn push_word(alloc: Global, made: &mut Vec<Text>, letter: &str, number: u64) -> 
     Ok(())
 }
 
-/// The words of a letter with the first so many of these numbers.
-fn first_free(
-    alloc: Global,
-    letter: &str,
-    numbers: &[u64],
-    count: usize,
-) -> Result<Vec<Text>, Memory>
-    ensures { IfOk result (λ made. made.items ≡ first_words letter.now count numbers.now) }
+/// The words of a letter with these numbers.
+fn words_of(alloc: Global, letter: &str, numbers: &[u64]) -> Result<Vec<Text>, Memory>
+    ensures { IfOk result (λ made. made.items ≡ numbered_words letter.now numbers.now) }
 {
-    let mut made = Vec::new(alloc);
+    let mut made = Vec::with_capacity(alloc, numbers.len())?;
     for number in numbers {
-        if made.len() == count {
-            break;
-        }
         push_word(alloc, &mut made, letter, *number)?;
     }
     Ok(made)
 }
 
-/// Keeps the word of a letter and a number, unless it is taken.
-fn keep_word(
-    alloc: Global,
-    made: &mut Vec<Text>,
-    letter: &str,
-    number: u128,
-    taken: &HashSet<&str>,
-) -> Result<(), Memory>
-    ensures { OnOk result (made.new.items
-        ≡ made.old.items
-        ++ filter (λ w. not (knows taken.now w)) ((letter.now ++ decimal number) ∷ [])) }
-{
-    let word = format!(in alloc; "{letter}{number}")?;
-    if !taken.contains(word.as_str()) {
-        made.push(Text::of(word))?;
-    }
-    Ok(())
-}
-
-/// The first so many words among a letter with 1, 2, 3 and so on that are not taken, of which there are
-/// enough below that number and the number of words that are taken. `free` has the first of these numbers.
+/// The first so many words among a letter with 1, 2, 3 and so on that are not taken, as `generated_numbers` has their
+/// numbers.
 pub fn generated(
     alloc: Global,
     letter: &str,
@@ -170,13 +182,6 @@ pub fn generated(
     requires free { AreFree letter.now words.now free.now }
     ensures { IfOk result (λ made. made.items ≡ new_words letter.now words.now count) }
 {
-    let mut made = first_free(alloc, letter, free.numbers.as_slice(), count)?;
-    let limit = count as u128 + words.len() as u128;
-    for i in free.tried as u128..limit {
-        if made.len() == count {
-            break;
-        }
-        keep_word(alloc, &mut made, letter, i + 1, taken)?;
-    }
-    Ok(made)
+    let numbers = generated_numbers(alloc, letter, words, taken, free, count)?;
+    words_of(alloc, letter, numbers.as_slice())
 }

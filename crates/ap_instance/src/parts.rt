@@ -147,7 +147,7 @@ fn copy_local(alloc: Global, local: &Local) -> Result<Local, Memory>
     ensures { IfOk result (λ l. local_of l ≡ local_of local.now) }
 {
     let kind = copy_kind(&local.kind)?;
-    let text = local.text.copy(alloc)?;
+    let text = local.text.share()?;
     Ok(Local {
         kind,
         bound: local.bound,

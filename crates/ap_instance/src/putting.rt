@@ -17,7 +17,7 @@ use crate::parts::{conclusion_of, copy_locals};
 use crate::stating::Stated;
 use ap_defs::copies::copy_term;
 use ap_defs::goals::{Goal, Kind, Local, Query};
-use ap_defs::lists::{List, Swaps, Text};
+use ap_defs::lists::{List, SharedText, Swaps, Text};
 use ap_defs::memory::Memory;
 use ap_defs::spines::{GoalLayer, close_goal};
 use ap_defs::terms::{Term, Var};
@@ -70,14 +70,14 @@ fn put_in_goal(
 }
 
 /// A free name of a sort, as an identifier without a spelling.
-fn name_of_sort(alloc: Global, sort: u32) -> Local
-    ensures { local_of result ≡ name_local sort }
+fn name_of_sort(alloc: Global, sort: u32) -> Result<Local, Memory>
+    ensures { IfOk result (λ l. local_of l ≡ name_local sort) }
 {
-    Local {
+    Ok(Local {
         kind: Kind::Name(sort),
         bound: false,
-        text: Text::of(String::new(alloc)),
-    }
+        text: SharedText::of(alloc, Text::of(String::new(alloc)))?,
+    })
 }
 
 /// Adds a free name of each sort.
@@ -87,7 +87,7 @@ fn add_names_of_sorts(alloc: Global, locals: &mut Vec<Local>, sorts: &[u32]) -> 
 {
     let mut rest = sorts;
     'adding: while let [sort, others @ ..] = rest {
-        locals.push(name_of_sort(alloc, *sort))?;
+        locals.push(name_of_sort(alloc, *sort)?)?;
         rest = others;
     }
     Ok(())

@@ -1,6 +1,6 @@
 //! What is read off the shapes of a table.
 
-ghost use Rattle.std.specs.Prelude.{◌≡◌, ℕ, Bool, IfOk};
+ghost use Rattle.std.specs.Prelude.{◌≡◌, ℕ, Bool, IfOk, IfSome};
 ghost use Rattle.ap_defs.specs.Types.{TypeShape, type_of, kind_of, hole, unit, names, base, pair, list, abs};
 ghost use Rattle.ap_kinds.specs.Reading.{read_kind};
 ghost use Rattle.ap_kinds.specs.ReadTypes.{IsRead, IsReadBy, sort_in_type, is_sort_type};
@@ -95,24 +95,46 @@ pub(crate) fn copy_read(read: &TypeRead) -> Result<TypeRead, Memory>
     })
 }
 
-/// A part that types share.
-fn shared(alloc: Global, ty: &Ty) -> Result<Arc<Ty>, Memory>
+/// The data type that was the last to be a part, if a type is the same.
+fn same_base(last: &Option<Arc<Ty>>, ty: &Ty) -> Result<Option<Arc<Ty>>, Memory>
+    ensures { IfOk result (λ o. IfSome o (λ s. type_of s.value ≡ type_of ty.now)) }
+{
+    let Some(part) = last else {
+        return Ok(None);
+    };
+    match (&**part, ty) {
+        (Ty::Base(data), Ty::Base(other)) if *data == *other => Ok(Some(Arc::try_clone(part)?)),
+        _ => Ok(None),
+    }
+}
+
+/// A part that types share. A data type is shared besides with the last one, if that is the same: a long tuple has it
+/// at many places.
+fn shared(alloc: Global, last: &mut Option<Arc<Ty>>, ty: &Ty) -> Result<Arc<Ty>, Memory>
     ensures { IfOk result (λ s. type_of s.value ≡ type_of ty.now) }
 {
-    Ok(Arc::new(alloc, copy_type(ty)?)?)
+    if let Some(part) = same_base(last, ty)? {
+        return Ok(part);
+    }
+    let part = Arc::new(alloc, copy_type(ty)?)?;
+    if let Ty::Base(_) = ty {
+        *last = Some(Arc::try_clone(&part)?);
+    }
+    Ok(part)
 }
 
 /// What is read off a pair, by what is read off its parts.
 pub(crate) fn read_pair(
     alloc: Global,
+    last: &mut Option<Arc<Ty>>,
     left: &TypeRead,
     right: &TypeRead,
 ) -> Result<TypeRead, Memory>
     ensures { IfOk result (λ r. (n m : ℕ) (p : ℕ → Bool) (t u : TypeShape) →
         IsRead n m p t left.now → IsRead n m p u right.now → IsRead n m p (pair t u) r) }
 {
-    let first = shared(alloc, &left.ty)?;
-    let second = shared(alloc, &right.ty)?;
+    let first = shared(alloc, last, &left.ty)?;
+    let second = shared(alloc, last, &right.ty)?;
     Ok(TypeRead {
         ty: Ty::Pair(first, second),
         declared: left.declared && right.declared,
@@ -122,11 +144,15 @@ pub(crate) fn read_pair(
 }
 
 /// What is read off a list, by what is read off its elements.
-pub(crate) fn read_list(alloc: Global, element: &TypeRead) -> Result<TypeRead, Memory>
+pub(crate) fn read_list(
+    alloc: Global,
+    last: &mut Option<Arc<Ty>>,
+    element: &TypeRead,
+) -> Result<TypeRead, Memory>
     ensures { IfOk result (λ r. (n m : ℕ) (p : ℕ → Bool) (t : TypeShape) →
         IsRead n m p t element.now → IsRead n m p (list t) r) }
 {
-    let part = shared(alloc, &element.ty)?;
+    let part = shared(alloc, last, &element.ty)?;
     Ok(TypeRead {
         ty: Ty::List(part),
         declared: element.declared,
@@ -153,11 +179,16 @@ fn is_sort(ty: &Ty) -> bool
 }
 
 /// What is read off an abstraction, by what is read off its parts.
-pub(crate) fn read_abs(alloc: Global, left: &TypeRead, body: &TypeRead) -> Result<TypeRead, Memory>
+pub(crate) fn read_abs(
+    alloc: Global,
+    last: &mut Option<Arc<Ty>>,
+    left: &TypeRead,
+    body: &TypeRead,
+) -> Result<TypeRead, Memory>
     ensures { IfOk result (λ r. (n m : ℕ) (p : ℕ → Bool) (t u : TypeShape) →
         IsRead n m p t left.now → IsRead n m p u body.now → IsRead n m p (abs t u) r) }
 {
-    let part = shared(alloc, &body.ty)?;
+    let part = shared(alloc, last, &body.ty)?;
     Ok(TypeRead {
         ty: Ty::Abs(sort_in(&left.ty), part),
         declared: left.declared && body.declared,

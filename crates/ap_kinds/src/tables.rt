@@ -11,10 +11,12 @@ use crate::read_types::{
     read_pair, read_unit,
 };
 use ap_defs::memory::Memory;
+use ap_defs::terms::Ty;
 use ap_types::nodes::Node;
 use ap_types::solved::Solved;
 use ap_types::writing::entry_at;
 use std::alloc::Global;
+use std::sync::Arc;
 
 /// What is read off a place without parts.
 fn read_plain(by: Declared<'_>, nodes: &[Node], x: usize) -> Option<TypeRead>
@@ -70,10 +72,11 @@ fn read_of_place<'a>(reads: &'a [TypeRead], x: usize) -> &'a TypeRead
     &reads[x]
 }
 
-/// What is read off a place whose parts were read.
+/// What is read off a place whose parts were read. `last` is the data type that was the last to be a part.
 fn read_place(
     alloc: Global,
     by: Declared<'_>,
+    last: &mut Option<Arc<Ty>>,
     nodes: &[Node],
     reads: &[TypeRead],
     x: usize,
@@ -98,16 +101,16 @@ fn read_place(
         Node::Pair(y, z) => {
             let first = read_of_place(reads, y);
             let second = read_of_place(reads, z);
-            read_pair(alloc, first, second)
+            read_pair(alloc, last, first, second)
         }
         Node::List(y) => {
             let element = read_of_place(reads, y);
-            read_list(alloc, element)
+            read_list(alloc, last, element)
         }
         Node::Abs(y, z) => {
             let left = read_of_place(reads, y);
             let body = read_of_place(reads, z);
-            read_abs(alloc, left, body)
+            read_abs(alloc, last, left, body)
         }
     }
 }
@@ -135,9 +138,10 @@ fn read_places(
     ensures { IfOk result (λ v. AreAllRead by.entry (shapes_of_nodes nodes.now) v.items) }
 {
     let mut reads = unread(alloc, nodes.len())?;
+    let mut last = None;
     for i in 0..order.len() {
         let x = order[i];
-        let read = read_place(alloc, by, nodes, reads.as_slice(), x)?;
+        let read = read_place(alloc, by, &mut last, nodes, reads.as_slice(), x)?;
         reads[x] = read;
     }
     Ok(reads)

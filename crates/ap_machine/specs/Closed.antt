@@ -18,12 +18,12 @@ closed_part s (parts.Made t) = term_of t
 
 -- a term in what stands round it
 abbrev pub closed_round : Store → Round → NominalTerm → NominalTerm
-closed_round s (rounds.RightOf t) u = pair (term_of t) u
-closed_round s (rounds.LeftOf c) u = pair u (canonical_term (meaning_in s c))
-closed_round s (rounds.RightIn f t) u = app f (pair (term_of t) u)
-closed_round s (rounds.LeftIn f c) u = app f (pair u (canonical_term (meaning_in s c)))
+closed_round s (rounds.RightOf t) u = pair (term_of t.value) u
+closed_round s (rounds.LeftOf c) u = pair u (canonical_term (meaning_in s c.value))
+closed_round s (rounds.RightIn f t) u = app f (pair (term_of t.value) u)
+closed_round s (rounds.LeftIn f c) u = app f (pair u (canonical_term (meaning_in s c.value)))
 closed_round s (rounds.App f) u = app f u
-closed_round s (rounds.Abs a) u = abs a u
+closed_round s (rounds.Abs r n) u = abs (record { sort = r; num = n }) u
 
 -- the first is outermost
 abbrev pub closed_within : Store → List Round → NominalTerm → NominalTerm
@@ -36,8 +36,8 @@ part_work s (parts.Left c) = 3 * size (meaning_in s c)
 part_work s (parts.Made t) = 0
 
 abbrev pub round_work : Store → Round → ℕ
-round_work s (rounds.LeftOf c) = 2 + 3 * size (meaning_in s c)
-round_work s (rounds.LeftIn f c) = 2 + 3 * size (meaning_in s c)
+round_work s (rounds.LeftOf c) = 2 + 3 * size (meaning_in s c.value)
+round_work s (rounds.LeftIn f c) = 2 + 3 * size (meaning_in s c.value)
 round_work s _ = 1
 
 abbrev pub rounds_work : Store → List Round → ℕ

@@ -120,13 +120,15 @@ fn link<'a>(alloc: Global, store: &Store<'a>, x: Var) -> Result<Option<Waiting>,
     }
 }
 
-/// What a variable stands for, with canonical lists.
-fn closed_var<'a>(alloc: Global, store: &Store<'a>, x: Var) -> Result<Term, Memory>
+/// What a variable stands for, with canonical lists. Suspensions on which no swappings wait share the given ones,
+/// which are none.
+fn closed_var<'a>(alloc: Global, store: &Store<'a>, none: &Swaps, x: Var) -> Result<Term, Memory>
+    requires { none.now ≡ [] }
     ensures { IfOk result (λ t. term_of t ≡ closed_term (state_in store.now) (susp [] x)) }
 {
     match store.binding(x) {
-        None => Ok(Term::Susp(Swaps::none(alloc)?, x)),
-        Some(bound) => closed_from(alloc, store, bound),
+        None => Ok(Term::Susp(none.share()?, x)),
+        Some(bound) => closed_from(alloc, store, none, bound),
     }
 }
 
@@ -144,16 +146,23 @@ fn made<'s>(slots: &'s [Slot], x: Var) -> Option<&'s Term>
 /// What a variable stands for, with canonical lists, by that for which another one stands if it is bound to one of
 /// which that is made.
 #[tactic(auto, using(crate::proofs::ChainLemmas::link_closes))]
-fn closed_by(alloc: Global, store: &Store<'_>, slots: &[Slot], x: Var) -> Result<Term, Memory>
-    requires { All (IsRight (state_in store.now)) slots.now }
+fn closed_by(
+    alloc: Global,
+    store: &Store<'_>,
+    none: &Swaps,
+    slots: &[Slot],
+    x: Var,
+) -> Result<Term, Memory>
+    requires none { none.now ≡ [] }
+    requires right { All (IsRight (state_in store.now)) slots.now }
     ensures { IfOk result (λ t. term_of t ≡ closed_term (state_in store.now) (susp [] x)) }
 {
     let Some(waiting) = link(alloc, store, x)? else {
-        return closed_var(alloc, store, x);
+        return closed_var(alloc, store, none, x);
     };
     match made(slots, waiting.var) {
         Some(t) => moved_term(alloc, &waiting.swaps, t),
-        None => closed_var(alloc, store, x),
+        None => closed_var(alloc, store, none, x),
     }
 }
 
@@ -196,9 +205,11 @@ fn way_from(
 fn close_at(
     alloc: Global,
     store: &Store<'_>,
+    none: &Swaps,
     slots: &mut Vec<Slot>,
     place: usize,
 ) -> Result<(), Memory>
+    requires none { none.now ≡ [] }
     requires inside { place < length slots.old.items }
     requires right { All (IsRight (state_in store.now)) slots.old.items }
     ensures right { OnOk result (All (IsRight (state_in store.now)) slots.new.items) }
@@ -209,7 +220,7 @@ fn close_at(
         return Ok(());
     }
     let var = slots[place].var;
-    let term = closed_by(alloc, store, slots, var)?;
+    let term = closed_by(alloc, store, none, slots, var)?;
     slots[place] = Slot {
         var,
         term: Some(term),
@@ -221,9 +232,11 @@ fn close_at(
 fn close_along(
     alloc: Global,
     store: &Store<'_>,
+    none: &Swaps,
     slots: &mut Vec<Slot>,
     mut way: Vec<usize>,
 ) -> Result<(), Memory>
+    requires none { none.now ≡ [] }
     requires inside { All (λ i. i < length slots.old.items) way.items }
     requires right { All (IsRight (state_in store.now)) slots.old.items }
     ensures right { OnOk result (All (IsRight (state_in store.now)) slots.new.items) }
@@ -231,7 +244,7 @@ fn close_along(
         ≡ map (λ e. e.var) slots.old.items) }
 {
     'closing: while let Some(place) = way.pop() {
-        close_at(alloc, store, slots, place)?;
+        close_at(alloc, store, none, slots, place)?;
     }
     Ok(())
 }
@@ -240,9 +253,11 @@ fn close_along(
 fn close_from(
     alloc: Global,
     store: &Store<'_>,
+    none: &Swaps,
     slots: &mut Vec<Slot>,
     place: usize,
 ) -> Result<(), Memory>
+    requires none { none.now ≡ [] }
     requires inside { place < length slots.old.items }
     requires right { All (IsRight (state_in store.now)) slots.old.items }
     ensures right { OnOk result (All (IsRight (state_in store.now)) slots.new.items) }
@@ -250,33 +265,40 @@ fn close_from(
         ≡ map (λ e. e.var) slots.old.items) }
 {
     if next_place(store, slots, slots[place].var).is_none() {
-        return close_at(alloc, store, slots, place);
+        return close_at(alloc, store, none, slots, place);
     }
     let way = way_from(alloc, store, slots, place)?;
-    close_along(alloc, store, slots, way)
+    close_along(alloc, store, none, slots, way)
 }
 
 /// What the variable of a slot stands for, which is made or not.
-fn taken(alloc: Global, store: &Store<'_>, slot: Slot) -> Result<Term, Memory>
+fn taken(alloc: Global, store: &Store<'_>, none: &Swaps, slot: Slot) -> Result<Term, Memory>
+    requires { none.now ≡ [] }
     ensures { IsRight (state_in store.now) slot → IfOk result (λ t. term_of t
         ≡ closed_term (state_in store.now) (susp [] slot.var)) }
 {
     let Slot { var, term } = slot;
     match term {
         Some(t) => Ok(t),
-        None => closed_var(alloc, store, var),
+        None => closed_var(alloc, store, none, var),
     }
 }
 
 /// What the variables of slots stand for.
-fn all_taken(alloc: Global, store: &Store<'_>, slots: Vec<Slot>) -> Result<Vec<Term>, Memory>
-    requires { All (IsRight (state_in store.now)) slots.items }
+fn all_taken(
+    alloc: Global,
+    store: &Store<'_>,
+    none: &Swaps,
+    slots: Vec<Slot>,
+) -> Result<Vec<Term>, Memory>
+    requires none { none.now ≡ [] }
+    requires right { All (IsRight (state_in store.now)) slots.items }
     ensures { IfOk result (λ v. map term_of v.items
         ≡ closed_vars (state_in store.now) (map (λ e. e.var) slots.items)) }
 {
     let mut terms = Vec::with_capacity(alloc, slots.len())?;
     'taking: for slot in slots {
-        terms.push(taken(alloc, store, slot)?)?;
+        terms.push(taken(alloc, store, none, slot)?)?;
     }
     Ok(terms)
 }
@@ -285,9 +307,10 @@ fn all_taken(alloc: Global, store: &Store<'_>, slots: Vec<Slot>) -> Result<Vec<T
 pub fn closed(alloc: Global, store: &Store<'_>, vars: &[Var]) -> Result<Vec<Term>, Memory>
     ensures { IfOk result (λ v. map term_of v.items ≡ closed_vars (state_in store.now) vars.now) }
 {
+    let none = Swaps::none(alloc)?;
     let mut slots = slots_of(alloc, vars)?;
     'closing: for place in 0..vars.len() {
-        close_from(alloc, store, &mut slots, place)?;
+        close_from(alloc, store, &none, &mut slots, place)?;
     }
-    all_taken(alloc, store, slots)
+    all_taken(alloc, store, &none, slots)
 }

@@ -14,7 +14,7 @@ ghost use Rattle.ap_machine.specs.Closed.{closed_part, closed_round, closed_with
 
 use ap_defs::lists::Swaps;
 use ap_defs::memory::Memory;
-use ap_defs::terms::{Name, Swap, Term};
+use ap_defs::terms::{Swap, Term};
 use ap_perm::closures::{Closure, Lent, Opened};
 use ap_perm::joining::copied;
 use ap_perm::perm::Perm;
@@ -23,15 +23,16 @@ use std::alloc::Global;
 
 /// What stands round the part of a term that is made: the part is right of a term that is made, left of
 /// one that is still to be made, the argument of a constructor, or the body of an abstraction. A pair that is
-/// the argument of a constructor makes one round with it, as the cell of a list does.
+/// the argument of a constructor makes one round with it, as the cell of a list does. There are as many as a list is
+/// long, so one is small.
 #[derive(Drop)]
 pub enum Round<'a> {
-    RightOf(Term),
-    LeftOf(Closure<'a>),
-    RightIn(u32, Term),
-    LeftIn(u32, Closure<'a>),
+    RightOf(Box<Term>),
+    LeftOf(Box<Closure<'a>>),
+    RightIn(u32, Box<Term>),
+    LeftIn(u32, Box<Closure<'a>>),
     App(u32),
-    Abs(Name),
+    Abs(u32, u64),
 }
 
 /// A part of a term that is still to be made, or one that is made.
@@ -49,6 +50,17 @@ pub(crate) fn canonical_of(alloc: Global, swaps: Vec<Swap>) -> Result<Vec<Swap>,
         return Ok(swaps);
     }
     Perm::of(alloc, &swaps)?.swaps(alloc)
+}
+
+/// Swappings that wait. Where there are none, those that are given are shared, which are none either.
+fn waiting_of(alloc: Global, none: &Swaps, swaps: Vec<Swap>) -> Result<Swaps, Memory>
+    requires { none.now ≡ [] }
+    ensures { IfOk result (λ s. s ≡ swaps.items) }
+{
+    if swaps.is_empty() {
+        return none.share();
+    }
+    Swaps::of(alloc, swaps)
 }
 
 /// What a closure stands for, with no bound variable at its head.
@@ -81,10 +93,9 @@ fn constant(alloc: Global, f: u32) -> Result<Term, Memory>
 }
 
 /// A pair of terms.
-fn paired(alloc: Global, left: Term, right: Term) -> Result<Term, Memory>
-    ensures { IfOk result (λ t. term_of t ≡ pair (term_of left) (term_of right)) }
+fn paired(alloc: Global, left: Box<Term>, right: Term) -> Result<Term, Memory>
+    ensures { IfOk result (λ t. term_of t ≡ pair (term_of left.value) (term_of right)) }
 {
-    let left = Box::new(alloc, left)?;
     let right = Box::new(alloc, right)?;
     Ok(Term::Pair(left, right))
 }
@@ -92,18 +103,23 @@ fn paired(alloc: Global, left: Term, right: Term) -> Result<Term, Memory>
 /// Keeps what stands right of the part that is made next, in a round with the constructor of which the pair of
 /// both is the argument, if it is one.
 #[tactic(auto, using(crate::proofs::ClosedLemmas::closed_within_last, crate::proofs::ClosedLemmas::rounds_work_last))]
-fn keep_right<'a>(rounds: &mut Vec<Round<'a>>, right: Closure<'a>) -> Result<(), Memory>
+fn keep_right<'a>(
+    alloc: Global,
+    rounds: &mut Vec<Round<'a>>,
+    right: Closure<'a>,
+) -> Result<(), Memory>
     ensures same { OnOk result ((s : Store) (t : NominalTerm) → closed_within s rounds.new.items t
         ≡ closed_within s rounds.old.items (pair t (canonical_term (meaning_in s right.entry)))) }
     ensures work { OnOk result ((s : Store) → rounds_work s rounds.new.items
         ≤ rounds_work s rounds.old.items + (2 + 3 * size (meaning_in s right.entry))) }
 {
+    let waiting = Box::new(alloc, right)?;
     match rounds.pop() {
-        None => rounds.push(Round::LeftOf(right))?,
-        Some(Round::App(f)) => rounds.push(Round::LeftIn(f, right))?,
+        None => rounds.push(Round::LeftOf(waiting))?,
+        Some(Round::App(f)) => rounds.push(Round::LeftIn(f, waiting))?,
         Some(round) => {
             rounds.push(round)?;
-            rounds.push(Round::LeftOf(right))?;
+            rounds.push(Round::LeftOf(waiting))?;
         }
     }
     Ok(())
@@ -114,9 +130,11 @@ fn keep_right<'a>(rounds: &mut Vec<Round<'a>>, right: Closure<'a>) -> Result<(),
 fn go_in<'a>(
     alloc: Global,
     store: &Store<'a>,
+    none: &Swaps,
     rounds: &mut Vec<Round<'a>>,
     c: Closure<'a>,
 ) -> Result<Part<'a>, Memory>
+    requires { none.now ≡ [] }
     ensures same { IfOk result (λ p.
         closed_within store.now rounds.new.items (closed_part store.now p)
         ≡ closed_within store.now rounds.old.items (canonical_term (meaning_in store.now c.entry))) }
@@ -130,11 +148,11 @@ fn go_in<'a>(
         Opened::Name(a) => Ok(Part::Made(Term::Name(a))),
         Opened::Susp(swaps, x) => {
             let swaps = canonical_of(alloc, swaps)?;
-            let waiting = Swaps::of(alloc, swaps)?;
+            let waiting = waiting_of(alloc, none, swaps)?;
             Ok(Part::Made(Term::Susp(waiting, x)))
         }
         Opened::Pair(left, right) => {
-            keep_right(rounds, right)?;
+            keep_right(alloc, rounds, right)?;
             Ok(Part::Left(left))
         }
         Opened::App(f, argument) => {
@@ -146,7 +164,7 @@ fn go_in<'a>(
             Ok(Part::Left(argument))
         }
         Opened::Abs(a, body) => {
-            rounds.push(Round::Abs(a))?;
+            rounds.push(Round::Abs(a.sort, a.num))?;
             Ok(Part::Left(body))
         }
     }
@@ -171,28 +189,34 @@ fn go_out<'a>(
     match round {
         Round::RightOf(left) => Ok(Part::Made(paired(alloc, left, made)?)),
         Round::LeftOf(right) => {
-            rounds.push(Round::RightOf(made))?;
-            Ok(Part::Left(right))
+            rounds.push(Round::RightOf(Box::new(alloc, made)?))?;
+            Ok(Part::Left(Box::into_inner(right)))
         }
         Round::RightIn(f, left) => {
             let argument = paired(alloc, left, made)?;
             Ok(Part::Made(Term::App(f, Box::new(alloc, argument)?)))
         }
         Round::LeftIn(f, right) => {
-            rounds.push(Round::RightIn(f, made))?;
-            Ok(Part::Left(right))
+            rounds.push(Round::RightIn(f, Box::new(alloc, made)?))?;
+            Ok(Part::Left(Box::into_inner(right)))
         }
         Round::App(f) => Ok(Part::Made(Term::App(f, Box::new(alloc, made)?))),
-        Round::Abs(a) => {
+        Round::Abs(sort, num) => {
             let body = Box::new(alloc, made)?;
-            Ok(Part::Made(Term::Abs(a.sort, a.num, body)))
+            Ok(Part::Made(Term::Abs(sort, num, body)))
         }
     }
 }
 
 /// What a closure stands for under the bindings, with canonical lists, made part by part.
 #[tactic(auto, using(crate::proofs::ClosedLemmas::closed_within_last, crate::proofs::ClosedLemmas::rounds_work_last))]
-fn close<'a>(alloc: Global, store: &Store<'a>, first: Closure<'a>) -> Result<Term, Memory>
+fn close<'a>(
+    alloc: Global,
+    store: &Store<'a>,
+    none: &Swaps,
+    first: Closure<'a>,
+) -> Result<Term, Memory>
+    requires { none.now ≡ [] }
     ensures { IfOk result (λ t. term_of t
         ≡ canonical_term (meaning_in store.now first.entry)) }
 {
@@ -200,7 +224,7 @@ fn close<'a>(alloc: Global, store: &Store<'a>, first: Closure<'a>) -> Result<Ter
     let mut part = Part::Left(first);
     'closing: loop {
         match part {
-            Part::Left(c) => part = go_in(alloc, store, &mut rounds, c)?,
+            Part::Left(c) => part = go_in(alloc, store, none, &mut rounds, c)?,
             Part::Made(t) => match rounds.pop() {
                 None => return Ok(t),
                 Some(round) => part = go_out(alloc, &mut rounds, round, t)?,
@@ -210,8 +234,15 @@ fn close<'a>(alloc: Global, store: &Store<'a>, first: Closure<'a>) -> Result<Ter
 }
 
 /// What a closure stands for under the bindings, with canonical lists. It is made once, and what stands
-/// round the part that is being made lies on a stack of its own.
-pub fn closed_from<'a>(alloc: Global, store: &Store<'a>, c: Lent<'_, 'a>) -> Result<Term, Memory>
+/// round the part that is being made lies on a stack of its own. Suspensions on which no swappings wait share the
+/// given ones, which are none.
+pub(crate) fn closed_from<'a>(
+    alloc: Global,
+    store: &Store<'a>,
+    none: &Swaps,
+    c: Lent<'_, 'a>,
+) -> Result<Term, Memory>
+    requires { none.now ≡ [] }
     ensures { IfOk result (λ t. term_of t
         ≡ canonical_term (under (bindings_of store.now) (lent_term c.entry))) }
 {
@@ -222,5 +253,5 @@ pub fn closed_from<'a>(alloc: Global, store: &Store<'a>, c: Lent<'_, 'a>) -> Res
         end: c.end,
         term: c.term,
     };
-    close(alloc, store, first)
+    close(alloc, store, none, first)
 }

@@ -18,16 +18,16 @@ use ap_perm::swappings::image;
 use std::alloc::Global;
 
 /// Swappings, and one more behind them.
-fn with_swap(alloc: Global, swaps: &[Swap], a: Name, b: Name) -> Result<Vec<Swap>, Memory>
-    ensures { IfOk result (λ v. v.items ≡ swaps.now ++ swap_of a b ∷ []) }
+fn with_swap(alloc: Global, swaps: &Swaps, a: Name, b: Name) -> Result<Swaps, Memory>
+    ensures { IfOk result (λ s. s ≡ swaps.now ++ swap_of a b ∷ []) }
 {
-    let mut all = swaps.to_vec(alloc)?;
+    let mut all = swaps.items().to_vec(alloc)?;
     all.push(Swap {
         sort: a.sort,
         left: a.num,
         right: b.num,
     })?;
-    Ok(all)
+    Swaps::of(alloc, all)
 }
 
 /// Whether what is last in a term goes on in the same way. It spares work alone.
@@ -44,13 +44,13 @@ fn goes_on(t: &Raw) -> bool {
 /// It calls itself on arguments of constructors, left parts of pairs and inside swappings alone, but for what
 /// ends a pair or an abstraction at once.
 #[cycle(carrying)]
-fn carry_under(alloc: Global, swaps: &[Swap], t: &Raw) -> Result<Term, Memory>
+fn carry_under(alloc: Global, swaps: &Swaps, t: &Raw) -> Result<Term, Memory>
     ensures { IfOk result (λ u. term_of u ≡ act_term swaps.now (carried_out (raw_of t.now))) }
 {
     match t {
         Raw::Unit => Ok(Term::Unit),
-        Raw::Name(a) => Ok(Term::Name(image(swaps, *a))),
-        Raw::Var(x) => waiting(alloc, swaps, *x),
+        Raw::Name(a) => Ok(Term::Name(image(swaps.items(), *a))),
+        Raw::Var(x) => waiting(swaps, *x),
         Raw::App(f, argument) => {
             if *f == 1 {
                 return carry_spine(alloc, swaps, t);
@@ -70,7 +70,7 @@ fn carry_under(alloc: Global, swaps: &[Swap], t: &Raw) -> Result<Term, Memory>
                     return carry_spine(alloc, swaps, t);
                 }
                 let body = carry_under(alloc, swaps, body)?;
-                abstraction(alloc, image(swaps, *a), body)
+                abstraction(alloc, image(swaps.items(), *a), body)
             }
             _ => carry_spine(alloc, swaps, t),
         },
@@ -92,17 +92,16 @@ fn abstraction(alloc: Global, a: Name, body: Term) -> Result<Term, Memory>
     Ok(Term::Abs(a.sort, a.num, Box::new(alloc, body)?))
 }
 
-/// A variable on which swappings wait.
-fn waiting(alloc: Global, swaps: &[Swap], x: Var) -> Result<Term, Memory>
+/// A variable on which swappings wait. They are shared.
+fn waiting(swaps: &Swaps, x: Var) -> Result<Term, Memory>
     ensures { IfOk result (λ t. term_of t ≡ nominal.susp swaps.now x) }
 {
-    let swaps = Swaps::of(alloc, swaps.to_vec(alloc)?)?;
-    Ok(Term::Susp(swaps, x))
+    Ok(Term::Susp(swaps.share()?, x))
 }
 
 /// A pair of terms with their swappings carried out, under further ones.
 #[cycle(carrying)]
-fn carry_two(alloc: Global, swaps: &[Swap], left: &Raw, right: &Raw) -> Result<Term, Memory>
+fn carry_two(alloc: Global, swaps: &Swaps, left: &Raw, right: &Raw) -> Result<Term, Memory>
     ensures { IfOk result (λ u. term_of u
         ≡ act_term swaps.now (carried_out (pair (raw_of left.now) (raw_of right.now)))) }
 {
@@ -116,7 +115,7 @@ fn carry_two(alloc: Global, swaps: &[Swap], left: &Raw, right: &Raw) -> Result<T
 #[tactic(auto, using(crate::proofs::CarryingLemmas::act_within))]
 fn carry_swapped(
     alloc: Global,
-    swaps: &[Swap],
+    swaps: &Swaps,
     places: &SwapPlaces,
     body: &Raw,
 ) -> Result<Term, Memory>
@@ -126,7 +125,7 @@ fn carry_swapped(
     match (places.left, places.right) {
         (Id::Name(a), Id::Name(b)) => {
             let inner = with_swap(alloc, swaps, a, b)?;
-            carry_under(alloc, inner.as_slice(), body)
+            carry_under(alloc, &inner, body)
         }
         _ => carry_under(alloc, swaps, body),
     }
@@ -134,7 +133,7 @@ fn carry_swapped(
 
 /// A part of a term with its swappings carried out, under further ones, where what is last in it is made.
 #[cycle(carrying)]
-fn carry_round(alloc: Global, swaps: &[Swap], part: &Raw, last: Term) -> Result<Term, Memory>
+fn carry_round(alloc: Global, swaps: &Swaps, part: &Raw, last: Term) -> Result<Term, Memory>
     ensures { IfOk result (λ u. term_of u
         ≡ carried_round swaps.now (raw_of part.now) (term_of last)) }
 {
@@ -145,7 +144,7 @@ fn carry_round(alloc: Global, swaps: &[Swap], part: &Raw, last: Term) -> Result<
         }
         Raw::App(f, _) => Ok(Term::App(*f, Box::new(alloc, last)?)),
         Raw::Under(under) => match &**under {
-            Under::Abs(Id::Name(a), _) => abstraction(alloc, image(swaps, *a), last),
+            Under::Abs(Id::Name(a), _) => abstraction(alloc, image(swaps.items(), *a), last),
             _ => Ok(last),
         },
         Raw::Unit | Raw::Name(_) | Raw::Var(_) => Ok(last),
@@ -156,7 +155,7 @@ fn carry_round(alloc: Global, swaps: &[Swap], part: &Raw, last: Term) -> Result<
 #[cycle(carrying)]
 fn carry_within(
     alloc: Global,
-    swaps: &[Swap],
+    swaps: &Swaps,
     mut parts: Vec<&Raw>,
     last: Term,
 ) -> Result<Term, Memory>
@@ -175,7 +174,7 @@ fn carry_within(
 /// It goes on along the right part of a pair, the argument of a constructor and the body of an abstraction.
 /// The way is kept, and what stands on it is made on the way back.
 #[cycle(carrying)]
-fn carry_spine(alloc: Global, swaps: &[Swap], t: &Raw) -> Result<Term, Memory>
+fn carry_spine(alloc: Global, swaps: &Swaps, t: &Raw) -> Result<Term, Memory>
     ensures { IfOk result (λ u. term_of u ≡ act_term swaps.now (carried_out (raw_of t.now))) }
 {
     let mut way = Vec::new(alloc);
@@ -184,10 +183,10 @@ fn carry_spine(alloc: Global, swaps: &[Swap], t: &Raw) -> Result<Term, Memory>
         match rest {
             Raw::Unit => return carry_within(alloc, swaps, way, Term::Unit),
             Raw::Name(a) => {
-                return carry_within(alloc, swaps, way, Term::Name(image(swaps, *a)));
+                return carry_within(alloc, swaps, way, Term::Name(image(swaps.items(), *a)));
             }
             Raw::Var(x) => {
-                let last = waiting(alloc, swaps, *x)?;
+                let last = waiting(swaps, *x)?;
                 return carry_within(alloc, swaps, way, last);
             }
             Raw::Pair(_, last) => {
@@ -212,31 +211,42 @@ fn carry_spine(alloc: Global, swaps: &[Swap], t: &Raw) -> Result<Term, Memory>
     }
 }
 
-/// A term with its swappings carried out. A variable that stands where a name belongs is left out.
+/// A term with its swappings carried out, under none. A variable that stands where a name belongs is left out.
 #[tactic(auto, using(ap_theory::proofs::TermLemmas::act_term_none))]
-pub fn carry_term(alloc: Global, t: &Raw) -> Result<Term, Memory>
+fn carry_term(alloc: Global, none: &Swaps, t: &Raw) -> Result<Term, Memory>
+    requires { none.now ≡ [] }
     ensures { IfOk result (λ u. term_of u ≡ carried_out (raw_of t.now)) }
 {
-    carry_under(alloc, &[], t)
+    carry_under(alloc, none, t)
 }
 
-/// Terms with their swappings carried out.
-pub fn carry_terms(alloc: Global, ts: &[Raw]) -> Result<List<Term>, Memory>
+/// Terms with their swappings carried out, under none.
+fn terms_carried(alloc: Global, none: &Swaps, ts: &[Raw]) -> Result<List<Term>, Memory>
+    requires { none.now ≡ [] }
     ensures { IfOk result (λ us. map term_of us ≡ map carried_out (map raw_of ts.now)) }
 {
     let mut carried = Vec::with_capacity(alloc, ts.len())?;
     for t in ts {
-        carried.push(carry_term(alloc, t)?)?;
+        carried.push(carry_term(alloc, none, t)?)?;
     }
     Ok(List::of(carried))
 }
 
-/// A goal with the swappings of its terms carried out.
+/// Terms with their swappings carried out. All suspensions on which none wait share these.
+pub fn carry_terms(alloc: Global, ts: &[Raw]) -> Result<List<Term>, Memory>
+    ensures { IfOk result (λ us. map term_of us ≡ map carried_out (map raw_of ts.now)) }
+{
+    let none = Swaps::none(alloc)?;
+    terms_carried(alloc, &none, ts)
+}
+
+/// A goal with the swappings of its terms carried out, under none.
 ///
 /// It goes on along what is right of `,` and `;` and inside `exists` and `new`, and calls itself on what
 /// is left of them alone.
 #[tactic(auto, using(ap_defs::proofs::SpineLemmas::goal_within_last))]
-pub fn carry_goal(alloc: Global, g: &Goal<Raw>) -> Result<Goal<Term>, Memory>
+fn goal_carried(alloc: Global, none: &Swaps, g: &Goal<Raw>) -> Result<Goal<Term>, Memory>
+    requires { none.now ≡ [] }
     ensures { IfOk result (λ h. goal_of h ≡ map_goal carried_out (goal_over raw_of g.now)) }
 {
     let mut layers = Vec::new(alloc);
@@ -245,23 +255,23 @@ pub fn carry_goal(alloc: Global, g: &Goal<Raw>) -> Result<Goal<Term>, Memory>
         match rest {
             Goal::True => return close_goal(alloc, layers, Goal::True),
             Goal::Atom(p, args) => {
-                let atom = Goal::Atom(*p, carry_terms(alloc, args.items())?);
+                let atom = Goal::Atom(*p, terms_carried(alloc, none, args.items())?);
                 return close_goal(alloc, layers, atom);
             }
             Goal::Equal(t, u) => {
-                let equal = Goal::Equal(carry_term(alloc, t)?, carry_term(alloc, u)?);
+                let equal = Goal::Equal(carry_term(alloc, none, t)?, carry_term(alloc, none, u)?);
                 return close_goal(alloc, layers, equal);
             }
             Goal::Fresh(t, u) => {
-                let fresh = Goal::Fresh(carry_term(alloc, t)?, carry_term(alloc, u)?);
+                let fresh = Goal::Fresh(carry_term(alloc, none, t)?, carry_term(alloc, none, u)?);
                 return close_goal(alloc, layers, fresh);
             }
             Goal::Both(left, right) => {
-                layers.push(GoalLayer::Both(carry_goal(alloc, left)?))?;
+                layers.push(GoalLayer::Both(goal_carried(alloc, none, left)?))?;
                 rest = right;
             }
             Goal::Either(left, right) => {
-                layers.push(GoalLayer::Either(carry_goal(alloc, left)?))?;
+                layers.push(GoalLayer::Either(goal_carried(alloc, none, left)?))?;
                 rest = right;
             }
             Goal::Exists(x, goal) => {
@@ -274,4 +284,12 @@ pub fn carry_goal(alloc: Global, g: &Goal<Raw>) -> Result<Goal<Term>, Memory>
             }
         }
     }
+}
+
+/// A goal with the swappings of its terms carried out. All suspensions on which none wait share these.
+pub fn carry_goal(alloc: Global, g: &Goal<Raw>) -> Result<Goal<Term>, Memory>
+    ensures { IfOk result (λ h. goal_of h ≡ map_goal carried_out (goal_over raw_of g.now)) }
+{
+    let none = Swaps::none(alloc)?;
+    goal_carried(alloc, &none, g)
 }

@@ -30,7 +30,7 @@ fn spelling(alloc: Global, locals: &[Local], num: u64) -> Result<Text, Memory>
     if place >= locals.len() {
         return Ok(Text::of(String::new(alloc)));
     }
-    locals[place].text.copy(alloc)
+    locals[place].text.text().copy(alloc)
 }
 
 /// Where an item stands, and its identifiers.

@@ -49,7 +49,7 @@ pub(crate) fn lent_name_texts(alloc: Global, locals: &[Local]) -> Result<Vec<&Te
     let mut texts = Vec::new(alloc);
     for local in locals {
         if sort_of(local).is_some() {
-            texts.push(&local.text)?;
+            texts.push(local.text.text())?;
         }
     }
     Ok(texts)
@@ -166,7 +166,7 @@ fn add_term_at<'a>(
         return Ok(());
     }
     let local = &locals[place];
-    add_var_given(given, term, &local.text)
+    add_var_given(given, term, local.text.text())
 }
 
 /// Adds the name that stands for the identifier of this number, if there is one.

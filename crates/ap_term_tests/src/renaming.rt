@@ -2,7 +2,7 @@ ghost use Rattle.std.specs.Prelude.{◌≡◌, [], ◌∷◌, IfOk, map, length}
 ghost use Rattle.ap_defs.specs.Terms.{app, susp, term_of};
 
 use ap_defs::goals::{Clause, Fresh, Goal, Kind, Local};
-use ap_defs::lists::{List, Swaps, Text};
+use ap_defs::lists::{List, SharedText, Swaps, Text};
 use ap_defs::memory::Memory;
 use ap_defs::terms::{Term, Ty, Var};
 use ap_program::renaming::rename;
@@ -14,12 +14,12 @@ fn variable(alloc: Global, num: u64) -> Result<Term, Memory>
     Ok(Term::Susp(Swaps::none(alloc)?, Var { num }))
 }
 
-fn local(alloc: Global, ty: Ty) -> Local {
-    Local {
+fn local(alloc: Global, ty: Ty) -> Result<Local, Memory> {
+    Ok(Local {
         kind: Kind::Var(ty),
         bound: false,
-        text: Text::of(String::new(alloc)),
-    }
+        text: SharedText::of(alloc, Text::of(String::new(alloc)))?,
+    })
 }
 
 fn locals(alloc: Global) -> Result<Vec<Local>, Memory>
@@ -27,7 +27,7 @@ fn locals(alloc: Global) -> Result<Vec<Local>, Memory>
 {
     let locals = Vec::from_array(
         alloc,
-        [local(alloc, Ty::Names(0)), local(alloc, Ty::Names(0))],
+        [local(alloc, Ty::Names(0))?, local(alloc, Ty::Names(0))?],
     )?;
     Ok(locals)
 }

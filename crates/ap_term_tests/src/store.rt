@@ -1,22 +1,22 @@
 use ap_defs::goals::{Kind, Local};
-use ap_defs::lists::Text;
+use ap_defs::lists::{SharedText, Text};
 use ap_defs::memory::Memory;
 use ap_defs::terms::Ty;
 use ap_store::store::Store;
 use std::alloc::Global;
 
-fn local(alloc: Global, kind: Kind) -> Local {
-    Local {
+fn local(alloc: Global, kind: Kind) -> Result<Local, Memory> {
+    Ok(Local {
         kind,
         bound: false,
-        text: Text::of(String::new(alloc)),
-    }
+        text: SharedText::of(alloc, Text::of(String::new(alloc)))?,
+    })
 }
 
 fn numbered(alloc: Global) -> Result<bool, Memory> {
     let locals = [
-        local(alloc, Kind::Name(0)),
-        local(alloc, Kind::Var(Ty::Names(0))),
+        local(alloc, Kind::Name(0))?,
+        local(alloc, Kind::Var(Ty::Names(0)))?,
     ];
     let mut store = Store::new(alloc);
     let first = store.make(&locals)?;

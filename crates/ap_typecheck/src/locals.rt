@@ -7,7 +7,7 @@ ghost use Rattle.ap_typecheck.specs.Checking as spec;
 ghost use Rattle.ap_typecheck.specs.Declaring as made;
 
 use ap_defs::goals::{Kind, Local};
-use ap_defs::lists::{List, Text};
+use ap_defs::lists::{List, SharedText, Text};
 use ap_defs::memory::Memory;
 use ap_kinds::IdentKind;
 use ap_scopes::identifiers::Identifier;
@@ -35,8 +35,23 @@ pub fn classes_of(alloc: Global, found: &[Identifier<'_>]) -> Result<Vec<IdentKi
     Ok(classes)
 }
 
-/// An identifier with its kind.
-fn local(alloc: Global, identifier: &Identifier<'_>, kind: Kind) -> Result<Local, Memory>
+/// The text of a word, which is shared where it is that of the given one.
+fn text_of(alloc: Global, shared: &SharedText, word: &str) -> Result<SharedText, Memory>
+    ensures { IfOk result (λ t. t ≡ word.now) }
+{
+    if shared.as_str() == word {
+        return shared.share();
+    }
+    SharedText::of(alloc, Text::of(String::from_str(alloc, word)?))
+}
+
+/// An identifier with its kind. All that are spelled as the given text share it.
+fn local(
+    alloc: Global,
+    shared: &SharedText,
+    identifier: &Identifier<'_>,
+    kind: Kind,
+) -> Result<Local, Memory>
     ensures { IfOk result (λ l. local_of l
         ≡ made.with_kind (identifier_of identifier.now) (kind_of kind)) }
 {
@@ -47,7 +62,7 @@ fn local(alloc: Global, identifier: &Identifier<'_>, kind: Kind) -> Result<Local
     Ok(Local {
         kind,
         bound: identifier.bound,
-        text: Text::of(String::from_str(alloc, word)?),
+        text: text_of(alloc, shared, word)?,
     })
 }
 
@@ -61,13 +76,17 @@ pub fn with_kinds(
     ensures { IfOk result (λ ls. locals_of ls
         ≡ made.with_kinds (map identifier_of found.now) (map kind_of kinds.items)) }
 {
+    if found.is_empty() {
+        return Ok(List::of(Vec::new(alloc)));
+    }
     let mut locals = Vec::with_capacity(alloc, found.len())?;
+    let blank = SharedText::of(alloc, Text::of(String::from_str(alloc, "_")?))?;
     let mut rest = kinds.into_iter();
     for identifier in found {
         let Some(kind) = rest.next() else {
             return Ok(List::of(locals));
         };
-        locals.push(local(alloc, identifier, kind)?)?;
+        locals.push(local(alloc, &blank, identifier, kind)?)?;
     }
     Ok(List::of(locals))
 }

@@ -7,7 +7,7 @@ use Rattle.ap_types.specs.Solving.{shape_at}
 use Rattle.ap_types.specs.Triangular.{layer_of, shapes_of_nodes, Fits, IsFormed, AreFormed}
 use Rattle.ap_types.specs.Joining.{LoadsAll, ArePairsWithin}
 use Rattle.ap_types.proofs.TableLemmas.{at_set_same, at_set_other, length_set, length_table, table_set}
-use Rattle.ap_types.proofs.JoinLemmas.{equal_or_not, set_formed}
+use Rattle.ap_types.proofs.LinkLemmas.{equal_or_not, set_formed}
 
 module _ (ts : List TypeShape) (x : ℕ) (t : TypeShape) (below : x < length ts) (opened : shape_at ts x ≡ hole x) where
   fits_without : (f : Filling) → Fits f (set ts x t) → Fits f ts

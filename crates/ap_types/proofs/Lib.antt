@@ -14,6 +14,7 @@ pub mod PlainLemmas
 pub mod PartTests
 pub mod InhabitedParts
 pub mod BarredParts
+pub mod LinkLemmas
 pub mod JoinLemmas
 pub mod FillLemmas
 pub mod WalkLemmas

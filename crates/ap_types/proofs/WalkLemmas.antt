@@ -14,7 +14,7 @@ use Rattle.ap_types.proofs.BooleanLemmas.{or_cases}
 use Rattle.ap_types.proofs.CountLemmas.{count_less, count_most, count_grows}
 use Rattle.ap_types.proofs.ShapeLemmas.{size_occurs, occurs_bound, filled_same, number_same}
 use Rattle.ap_types.proofs.TableLemmas.{at_past}
-use Rattle.ap_types.proofs.JoinLemmas.{equal_or_not}
+use Rattle.ap_types.proofs.LinkLemmas.{equal_or_not}
 
 -- A place that fits weighs more than its parts.
 abbrev pub weight : Filling → ℕ → ℕ → ℕ

@@ -5,9 +5,10 @@ use Rattle.ap_types.specs.declared.nodes.Node.{Node}
 use Rattle.ap_types.specs.declared.nodes.Node.TheVariants as nodes
 use Rattle.ap_types.specs.declared.joining.Rest.{Rest}
 use Rattle.ap_types.specs.declared.joining.Rest.TheVariants as rests
-use Rattle.ap_types.specs.Equations.{ShapeEquation, Filling, filled, FillingSolves}
+use Rattle.ap_types.specs.Equations.{ShapeEquation, Filling, filled, FillingSolves, hole_count}
+use Rattle.ap_types.specs.Assignments.{name_equations}
 use Rattle.ap_types.specs.Solving.{shape_at}
-use Rattle.ap_types.specs.Triangular.{Fits, AreFormed, IsSettledTable}
+use Rattle.ap_types.specs.Triangular.{shapes_of_nodes, Fits, AreFormed, IsSettledTable}
 
 -- the two places of each pair are filled alike
 abbrev pub Agree : Filling → List (ℕ × ℕ) → Type 0
@@ -38,6 +39,10 @@ pub record LoadsAll (old : List TypeShape) (before : List (ℕ × ℕ)) (es : Li
   pub within : ArePairsWithin (length new) after
   pub solves : (f : Filling) → Fits f new → Agree f after → (Fits f old × Agree f before) × FillingSolves f es
   pub more : (f : Filling) → Fits f old → Agree f before → FillingSolves f es → (g : Filling) × (Fits g new × Agree g after) × ((x : ℕ) → x < length old → g x ≡ f x)
+
+-- The new table says of the old places what the old one and the equation say, with the same pairs.
+abbrev pub Fills : List Node → ShapeEquation → List Node → Type 0
+Fills ns e ms = (ps : List (ℕ × ℕ)) → ArePairsWithin (length ns) ps → LoadsAll (shapes_of_nodes ns) ps (e ∷ []) (shapes_of_nodes ms) ps
 
 abbrev pub is_root : ℕ → TypeShape → Bool
 is_root x (hole y) = x == y
@@ -133,6 +138,10 @@ pub record LoadsSystem (es fs : List ShapeEquation) (holes : ℕ) (ts : List Typ
   pub longer : holes ≤ length ts
   pub solves : (f : Filling) → Fits f ts → Agree f ps → FillingSolves f es × FillingSolves f fs
   pub more : (f : Filling) → FillingSolves f es → FillingSolves f fs → (g : Filling) × (Fits g ts × Agree g ps) × ((x : ℕ) → x < holes → g x ≡ f x)
+
+-- They say so of equations and of those by which holes are the one name type, and the holes are all that these have.
+abbrev pub BeginsSystem : List ShapeEquation → List ℕ → ℕ → ℕ → List TypeShape → List (ℕ × ℕ) → Type 0
+BeginsSystem es xs n holes ts ps = (holes ≡ hole_count es xs) × LoadsSystem es (name_equations n xs) holes ts ps
 
 -- What fits and makes the pairs alike is what fits the other table, in which no place stands within itself.
 pub record Settles (ts : List TypeShape) (ps : List (ℕ × ℕ)) (ts' : List TypeShape) : Type 0 where

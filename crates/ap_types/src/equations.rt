@@ -6,7 +6,7 @@ ghost use Rattle.ap_types.specs.Equations.{equation_of, bound_of, equations_boun
 ghost use Rattle.ap_types.specs.Assignments.{AreNames, IsUnsolvable, name_equation, name_equations, Narrows};
 ghost use Rattle.ap_types.specs.Triangular.{shapes_of_nodes, AreFormed, IsSettledTable, assignment_of};
 ghost use Rattle.ap_types.specs.Loading.{own_bound};
-ghost use Rattle.ap_types.specs.Joining.{ArePairsWithin, NeverAgree, LoadsSystem, Settles};
+ghost use Rattle.ap_types.specs.Joining.{ArePairsWithin, BeginsSystem, NeverAgree, LoadsSystem, Settles};
 ghost use Rattle.ap_types.specs.Walking.{AreInOrder};
 
 use crate::errors::TypesError;
@@ -172,11 +172,8 @@ fn begun(
     names: &[u64],
     name_types: u32,
 ) -> Result<Unsolved, Memory>
-    ensures holes { IfOk result (λ b. b.holes
-        ≡ hole_count (map equation_of equations.now) names.now) }
-    ensures loads { IfOk result (λ b. LoadsSystem (map equation_of equations.now)
-        (name_equations name_types names.now) b.holes (shapes_of_nodes b.loaded.nodes.items)
-        b.loaded.pairs.items) }
+    ensures { IfOk result (λ b. BeginsSystem (map equation_of equations.now) names.now name_types
+        b.holes (shapes_of_nodes b.loaded.nodes.items) b.loaded.pairs.items) }
 {
     let in_equations = bound_in_equations(alloc, equations)?;
     let in_names = bound_in_names(names)?;
@@ -192,11 +189,8 @@ fn begun_of(
     names: &[u64],
     name_types: u32,
 ) -> Result<Unsolved, Memory>
-    ensures holes { IfOk result (λ b. b.holes
-        ≡ hole_count (map equation_of equations.items) names.now) }
-    ensures loads { IfOk result (λ b. LoadsSystem (map equation_of equations.items)
-        (name_equations name_types names.now) b.holes (shapes_of_nodes b.loaded.nodes.items)
-        b.loaded.pairs.items) }
+    ensures { IfOk result (λ b. BeginsSystem (map equation_of equations.items) names.now name_types
+        b.holes (shapes_of_nodes b.loaded.nodes.items) b.loaded.pairs.items) }
 {
     begun(alloc, equations.as_slice(), names, name_types)
 }

@@ -6,7 +6,7 @@ ghost use Rattle.ap_types.specs.Equations.{◌≐◌, equation_of, bound_of, equ
 ghost use Rattle.ap_types.specs.Solving.{shape_at};
 ghost use Rattle.ap_types.specs.Triangular.{layer_of, shapes_of_nodes, IsFormed, AreFormed};
 ghost use Rattle.ap_types.specs.Loading.{lent_shapes, taken, place_in, parts_taken, entry_in};
-ghost use Rattle.ap_types.specs.Joining.{ArePairsWithin, Loads, LoadsAll};
+ghost use Rattle.ap_types.specs.Joining.{ArePairsWithin, Fills, Loads, LoadsAll};
 
 use crate::nodes::Node;
 use ap_defs::memory::Memory;
@@ -177,9 +177,8 @@ fn fill(nodes: &mut Vec<Node>, side: &Shape, t: &Shape) -> bool
     requires formed { AreFormed (shapes_of_nodes nodes.old.items) }
     requires left { bound_of (shape_of side.now) ≤ length nodes.old.items }
     requires right { bound_of (shape_of t.now) ≤ length nodes.old.items }
-    ensures filled { result ≡ true → (ps : List (ℕ × ℕ)) →
-        ArePairsWithin (length nodes.old.items) ps → LoadsAll (shapes_of_nodes nodes.old.items) ps
-        ((shape_of side.now ≐ shape_of t.now) ∷ []) (shapes_of_nodes nodes.new.items) ps }
+    ensures filled { result ≡ true →
+        Fills nodes.old.items (shape_of side.now ≐ shape_of t.now) nodes.new.items }
     ensures kept { result ≡ false → nodes.new.items ≡ nodes.old.items }
 {
     let Shape::Hole(number) = side else {
@@ -202,9 +201,8 @@ fn fill_either(nodes: &mut Vec<Node>, left: &Shape, right: &Shape) -> bool
     requires formed { AreFormed (shapes_of_nodes nodes.old.items) }
     requires left { bound_of (shape_of left.now) ≤ length nodes.old.items }
     requires right { bound_of (shape_of right.now) ≤ length nodes.old.items }
-    ensures filled { result ≡ true → (ps : List (ℕ × ℕ)) →
-        ArePairsWithin (length nodes.old.items) ps → LoadsAll (shapes_of_nodes nodes.old.items) ps
-        ((shape_of left.now ≐ shape_of right.now) ∷ []) (shapes_of_nodes nodes.new.items) ps }
+    ensures filled { result ≡ true →
+        Fills nodes.old.items (shape_of left.now ≐ shape_of right.now) nodes.new.items }
     ensures kept { result ≡ false → nodes.new.items ≡ nodes.old.items }
 {
     if fill(nodes, left, right) {

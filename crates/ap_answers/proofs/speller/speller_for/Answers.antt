@@ -1,16 +1,18 @@
-use Rattle.std.proofs.Common.{◌≡◌, ◌-◌, length, ap, arith}
+use Rattle.std.proofs.Common.{◌≡◌, ◌-◌, length, codes, ap, arith}
 use Rattle.ap_defs.specs.Lines.{name_texts}
 use Rattle.ap_defs.specs.Types.{locals_of}
 use Rattle.ap_defs.specs.Goals.{program_of}
+use Rattle.ap_answers.specs.Words.{numbered_words}
 use Rattle.ap_answers.proofs.SpellingLemmas.{spells}
 use Rattle.ap_answers.proofs.speller.speller_for.Goals as goal
 
 pub returns : goal.returns
 returns c = λ s k v.
     rw c.items-constructors.ensures
-    (spells (program_of c.args.program.now) (locals_of c.args.locals.now) s c.args.names.now.keys c.args.vars.now.keys c.append.new.self.items c.in_ok-made.made.items c.in_ok-var_texts.var_texts.items
+    (spells (program_of c.args.program.now) (locals_of c.args.locals.now) s c.args.names.now.keys c.args.vars.now.keys c.append.new.self.items c.in_ok-made.made.items
+    (numbered_words (codes "_") c.in_ok-numbers.numbers.items)
     k v (rw c.in_ok-name_texts.ensures at c.in_ok-append.ensures.items)
     (let as_many : length c.in_ok-name_texts.name_texts.items ≡ length (name_texts (locals_of c.args.locals.now)) = ap length c.in_ok-name_texts.ensures in
     let count : c.saturating_sub-others.result ≡ length c.args.names.now.keys - length (name_texts (locals_of c.args.locals.now)) = omega (arith, c.in_ok-name_texts.name_texts.ok.0) in
     rw (c.items-words.ensures, count) at c.in_ok-made.ensures)
-    (rw (c.items-words.ensures, c.len-3.ensures.len) at c.in_ok-var_texts.ensures))
+    (rw (c.items-words.ensures, c.len-3.ensures.len) at c.in_ok-numbers.ensures))

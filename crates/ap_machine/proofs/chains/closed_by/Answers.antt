@@ -16,5 +16,5 @@ returns-in-Some-made c =
     let w = c.in-Some.waiting in
     let t = term_of c.in-Some-made.t.now in
     let bound : raw_bound s x ≡ Some (susp w.swaps.items w.var) = rw c.in-Some.is at c.in_ok-waiting.ensures in
-    IfOk-weaker c.moved_term.result _ _ (λ u e. e ∙ link_closes s x w.var w.swaps.items t bound (c.in-Some-made.ensures (state_in s) c.requires))
+    IfOk-weaker c.moved_term.result _ _ (λ u e. e ∙ link_closes s x w.var w.swaps.items t bound (c.in-Some-made.ensures (state_in s) c.requires.right))
     (rw c.deref.ensures.value at c.moved_term.ensures)

@@ -68,7 +68,7 @@ returns-in_ok-push-in-Abs-clause-same c =
     let s = c.args.store.now in
     let all : meaning_in s c.args.c ≡ abs c.in-Abs.a (meaning_in s c.in-Abs.body) =
     sym c.in_ok-head.ensures.term ∙ ap (under (bindings_of s)) (sym c.in_ok-open.ensures ∙ ap opened_term c.in-Abs.is) in
-    round_goes_in s c.args.rounds.now.items c.push-in-Abs.new.self.items (rounds.Abs c.in-Abs.a) (canonical_term (meaning_in s c.args.c)) (canonical_term (meaning_in s c.in-Abs.body))
+    round_goes_in s c.args.rounds.now.items c.push-in-Abs.new.self.items (rounds.Abs c.in-Abs.a.sort c.in-Abs.a.num) (canonical_term (meaning_in s c.args.c)) (canonical_term (meaning_in s c.in-Abs.body))
     c.in_ok-push-in-Abs.ensures.items (ap canonical_term all)
 
 pub returns-in_ok-push-in-Abs-clause-less : goal.returns-in_ok-push-in-Abs-clause-less
@@ -76,7 +76,7 @@ returns-in_ok-push-in-Abs-clause-less c =
     let s = c.args.store.now in
     let all : meaning_in s c.args.c ≡ abs c.in-Abs.a (meaning_in s c.in-Abs.body) =
     sym c.in_ok-head.ensures.term ∙ ap (under (bindings_of s)) (sym c.in_ok-open.ensures ∙ ap opened_term c.in-Abs.is) in
-    work_goes_in s c.args.rounds.now.items c.push-in-Abs.new.self.items (rounds.Abs c.in-Abs.a) (3 * size (meaning_in s c.in-Abs.body)) (3 * size (meaning_in s c.args.c))
+    work_goes_in s c.args.rounds.now.items c.push-in-Abs.new.self.items (rounds.Abs c.in-Abs.a.sort c.in-Abs.a.num) (3 * size (meaning_in s c.in-Abs.body)) (3 * size (meaning_in s c.args.c))
     c.in_ok-push-in-Abs.ensures.items (abs_work (meaning_in s c.args.c) c.in-Abs.a (meaning_in s c.in-Abs.body) all)
 
 pub returns-then-is_unit-clause-same : goal.returns-then-is_unit-clause-same

@@ -11,11 +11,11 @@ returns-in_err-nodes-clause-clash c =
     let es = map equation_of c.args.equations.items in
     let b = c.in_ok-first.first in
     rw (p.1, p.2) (λ i. unsolvable_never es c.args.names.now c.args.name_types b.holes (shapes_of_nodes b.loaded.nodes.items) b.loaded.pairs.items
-    (sym c.in_ok-first.ensures.holes) c.in_ok-first.ensures.loads (c.in_err-nodes.ensures.clash i))
+    (sym c.in_ok-first.ensures.0) c.in_ok-first.ensures.1 (c.in_err-nodes.ensures.clash i))
 
 pub returns-clause-narrows : goal.returns-clause-narrows
 returns-clause-narrows c =
     let es = map equation_of c.args.equations.items in
     let b = c.in_ok-first.first in
     narrows_settled es c.args.names.now c.args.name_types b.holes (shapes_of_nodes b.loaded.nodes.items) b.loaded.pairs.items
-    (sym c.in_ok-first.ensures.holes) c.in_ok-first.ensures.loads (shapes_of_nodes c.in_ok-nodes.nodes.items) c.in_ok-nodes.ensures.ok
+    (sym c.in_ok-first.ensures.0) c.in_ok-first.ensures.1 (shapes_of_nodes c.in_ok-nodes.nodes.items) c.in_ok-nodes.ensures.ok

@@ -1,5 +1,5 @@
 use Rattle.ap_types.specs.Triangular.{shapes_of_nodes}
-use Rattle.ap_types.proofs.JoinLemmas.{follows_on, follows_end}
+use Rattle.ap_types.proofs.LinkLemmas.{follows_on, follows_end}
 use Rattle.ap_types.proofs.joining.root_of.Goals as goal
 
 pub links-preserved : goal.links-preserved

@@ -1,6 +1,6 @@
 -- The way to the root so far; each link goes to an earlier place.
 use Rattle.ap_types.specs.Triangular.{shapes_of_nodes}
-use Rattle.ap_types.proofs.JoinLemmas.{Follows}
+use Rattle.ap_types.proofs.LinkLemmas.{Follows}
 use Rattle.ap_types.proofs.joining.root_of.Given as goal
 
 abbrev pub invariant-links : goal.invariant-links

@@ -3,7 +3,7 @@ use Rattle.ap_types.specs.declared.nodes.Node.TheVariants as nodes
 use Rattle.ap_types.specs.Triangular.{shapes_of_nodes}
 use Rattle.ap_types.specs.Joining.{Shortens}
 use Rattle.ap_types.proofs.TableLemmas.{table_set, length_table}
-use Rattle.ap_types.proofs.JoinLemmas.{shortens_link}
+use Rattle.ap_types.proofs.LinkLemmas.{shortens_link}
 use Rattle.ap_types.proofs.joining.shorten.Goals as goal
 use Rattle.std.proofs.Common.{arith}
 

@@ -1,5 +1,5 @@
 use Rattle.ap_types.specs.Triangular.{shapes_of_nodes}
-use Rattle.ap_types.proofs.JoinLemmas.{rewrites_on}
+use Rattle.ap_types.proofs.LinkLemmas.{rewrites_on}
 use Rattle.ap_types.proofs.joining.shorten_all.Goals as goal
 
 pub loop-x-preserved : goal.loop-x-preserved

@@ -3,7 +3,7 @@ use Rattle.std.proofs.Common.{◌≡◌, map, take}
 use Rattle.ap_defs.specs.RawTerms.{raw_of}
 use Rattle.ap_defs.specs.Terms.{term_of}
 use Rattle.ap_program.specs.CarryingOut.{carried_out}
-use Rattle.ap_restrict.proofs.carrying.carry_terms.Given as goal
+use Rattle.ap_restrict.proofs.carrying.terms_carried.Given as goal
 
 abbrev pub invariant-loop-t : goal.invariant-loop-t
 invariant-loop-t l = map term_of l.carried.items ≡ map carried_out (map raw_of (take l.t-index l.ts))

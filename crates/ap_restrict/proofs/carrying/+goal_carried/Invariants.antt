@@ -5,10 +5,10 @@ use Rattle.ap_defs.specs.RawTerms.{raw_of}
 use Rattle.ap_defs.specs.Spines.{goal_within}
 use Rattle.ap_program.specs.CarryingOut.{carried_out, map_goal}
 use Rattle.ap_restrict.proofs.PlaceLemmas.{goal_size}
-use Rattle.ap_restrict.proofs.carrying.+carry_goal.Given as goal
+use Rattle.ap_restrict.proofs.carrying.+goal_carried.Given as goal
 
-abbrev pub decreases-carry_goal : goal.decreases-carry_goal
-decreases-carry_goal l = goal_size (goal_over raw_of l.g.now)
+abbrev pub decreases-goal_carried : goal.decreases-goal_carried
+decreases-goal_carried l = goal_size (goal_over raw_of l.g.now)
 
 abbrev pub invariant-loop-rest : goal.invariant-loop-rest
 invariant-loop-rest l = record {
