@@ -8,8 +8,8 @@ trap 'rm -rf "$work"' EXIT
 
 # Builds the program that measures parts of the interpreter by themselves, and sets parts to its path.
 build_parts() {
-    (cd "$bench/../crates/ap_part_cases" && rt run -- types > /dev/null 2>&1)
-    parts=$bench/../crates/ap_part_cases/out/ap_part_cases
+    (cd "$bench/../crates/ap_cases" && rt run -- types > /dev/null 2>&1)
+    parts=$bench/../crates/ap_cases/out/ap_cases
 }
 
 # Builds the interpreter, and sets program to its path.

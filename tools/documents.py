@@ -9,13 +9,13 @@ Each fenced block of README.md, docs/LANGUAGE.md, docs/TUTORIAL.md and docs/FROM
   the gate has for it in crates/ap_cases/stdout; below it may stand what is said on standard error. Where FILE, BUNDLE or the like
   stands for what is read, the gate has the lines somewhere. Other commands are tried with the built program alone (below);
 - a session of `./alphaprolog-shell`: what is typed behind the prompts `?- ` and `|  `, and what is written for it;
-- a report: lines that stand together in crates/ap_cases/stdout, or in crates/ap_part_cases/stdout;
-- messages (`error:`, `warning:`, `note:`): each stands in crates/ap_part_cases/stdout;
+- a report: lines that stand together in crates/ap_cases/stdout;
+- messages (`error:`, `warning:`, `note:`): each stands in crates/ap_cases/stdout;
 - a program: a text of examples/, byte for byte. Where the words before it say "in part", each of its paragraphs
   stands in one text.
 
 In the tables each row with an example of examples/faults/ and a fault's line has the line that the gate has for it. Each
-text of examples/faults/ ends with a comment that has that line and what is said of it, which stands in crates/ap_part_cases/stdout.
+text of examples/faults/ ends with a comment that has that line and what is said of it, which stands in crates/ap_cases/stdout.
 
 With the built PROGRAM each command of the documents is run besides, as it is written, and must show on standard output and
 standard error what its block has; each text of examples/faults/ what its comment has. No other example may have a warning, and
@@ -134,8 +134,8 @@ class Checker:
         self.texts = example_texts()
         self.reports = gate_reports()
         self.commands = gate_commands() | gate_exams()
-        self.all_reports = text_of("crates/ap_cases/stdout") + text_of("crates/ap_part_cases/stdout")
-        self.all_messages = text_of("crates/ap_part_cases/stdout")
+        self.all_reports = text_of("crates/ap_cases/stdout")
+        self.all_messages = self.all_reports
 
     def said(self, path, line, message, cut=0):
         """Whether the gate has a message."""
@@ -258,7 +258,7 @@ class Checker:
         if self.reports.get(("10", name)) != report:
             differ(path, 1, "the gate has another line for it")
         for message in messages_of(said.splitlines()):
-            # the cases of ap_part_cases are UTF-8
+            # the cases of ap_cases are UTF-8
             if not name.endswith("_not_utf8.apl"):
                 self.said(path, 1, message)
         if self.program:

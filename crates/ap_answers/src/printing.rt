@@ -1,30 +1,26 @@
-//! What is shown of an answer, and the report on a query.
+//! The report on a query.
 
 ghost use Rattle.std.specs.Prelude.{◌≡◌, ◌≤◌, ℕ, List as list, length, IfOk};
 ghost use Rattle.ap_defs.specs.Types.{locals_of};
 ghost use Rattle.ap_defs.specs.Goals.{program_of};
-ghost use Rattle.ap_defs.specs.Answers.{answer_of, outs_of};
-ghost use Rattle.ap_defs.specs.Lines.{shown_in, query_lines};
+ghost use Rattle.ap_defs.specs.Answers.{outs_of};
+ghost use Rattle.ap_defs.specs.Lines.{query_lines};
 ghost use Rattle.ap_defs.specs.Printing.{has_word};
 ghost use Rattle.ap_program.specs.NameRestriction.{IsRestricted};
-ghost use Rattle.ap_answers.specs.Queries.{query_locals, nominal_shown};
-ghost use Rattle.ap_answers.specs.SoundlyShown.{IsSoundlyShown};
+ghost use Rattle.ap_answers.specs.Queries.{query_locals};
 ghost use Rattle.ap_answers.specs.Words.{knows, IsTaken};
 
-use crate::copying::shown_of;
 use crate::report::report;
-use crate::shown::display_of;
 use crate::words::{Taken, taken_words, word_set};
 use ap_defs::goals::Local;
 use ap_defs::memory::Memory;
-use ap_defs::outcomes::{Answer, Shown};
 use ap_defs::paths::Out;
 use ap_program::restricted::Restricted;
 use std::alloc::Global;
 use std::collections::HashSet;
 
 /// The identifiers of the query of this number, from 1, and that the program is restricted.
-fn locals_in(program: &Restricted, query: u32) -> &[Local]
+pub fn locals_in(program: &Restricted, query: u32) -> &[Local]
     requires from_one { 1 ≤ query }
     requires exists { query ≤ length (program_of program.now).queries }
     ensures locals { locals_of result.now ≡ query_locals (program_of program.now) query }
@@ -32,30 +28,6 @@ fn locals_in(program: &Restricted, query: u32) -> &[Local]
 {
     let query = &program.program().queries.items()[(query - 1) as usize];
     query.locals.items()
-}
-
-/// What is shown of an answer to the query of this number, from 1: the bindings of variables other than
-/// `_`, the conditions whose variable occurs in these and whose name does or is a free name of the query,
-/// and the names and variables that print as generated. Where the query is derivable in each instance of
-/// the answer, whoever made it, it is in each instance of what is shown, if each of the answer's variables
-/// has one type, and that is inhabited.
-pub fn canonical(
-    alloc: Global,
-    program: &Restricted,
-    query: u32,
-    answer: &Answer,
-) -> Result<Shown, Memory>
-    requires from_one { 1 ≤ query }
-    requires exists { query ≤ length (program_of program.now).queries }
-    ensures shown { IfOk result (λ shown. nominal_shown shown ≡
-        shown_in (query_locals (program_of program.now) query) (answer_of answer.now)) }
-    ensures sound { IfOk result (λ shown. IsSoundlyShown (program_of program.now) query
-        (answer_of answer.now) (nominal_shown shown)) }
-{
-    let locals = locals_in(program, query);
-    let display = display_of(alloc, locals, answer)?;
-    let shown = shown_of(alloc, locals, &display)?;
-    Ok(shown)
 }
 
 /// The set of the words of a program's text, which are left out where words are generated.

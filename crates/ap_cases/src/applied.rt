@@ -2,11 +2,11 @@
 
 use ap_coverer::Covered;
 use ap_defs::goals::{Kind, Local};
-use ap_defs::ground::{alpha_eq, fresh_ground};
 use ap_defs::memory::Memory;
 use ap_defs::outcomes::Answer;
 use ap_defs::terms::{Cond, Ground, Name, Swap, Term, Var};
 use ap_perm::swappings::image;
+use ap_values::ground::{alpha_eq, fresh_ground};
 use std::alloc::Global;
 
 /// A term without variables on which swappings act. A variable would be unit.

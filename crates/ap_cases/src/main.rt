@@ -1,4 +1,4 @@
-//! Whole texts, one after the other, and what the top call writes for each.
+//! Whole texts and what the top call writes for each, what parts of the program do by themselves, and measurements.
 //!
 //! The files `.cases` of the folder that this program is run in have texts, which are run by one worker and by
 //! several; those of `sampled_to_0.cases` and so on were made at random, and what is wanted of them is from an
@@ -9,6 +9,10 @@
 //! writes fail in `failing.rt`, and the large texts in `large.rt`. The library's call `cover` is made on the ground
 //! proofs among all these derivations, and on the proofs of `CALLS`, and it is looked at term by term whether what it gives
 //! covers the proof.
+//!
+//! Parts that the top call doesn't reach, or that show more by themselves: what texts are read as (`texts.rt`), what is
+//! said beside their reports (`explained.rt`), and what is shown of bundles (`pages.rt`). With a word this program makes a
+//! measurement (`measures.rt`), and prints what was measured.
 #![tactic(auto)]
 
 mod applied;
@@ -19,20 +23,38 @@ mod cases;
 mod command_lines;
 mod covering;
 mod derivations;
+mod explained;
 mod failing;
 mod folders;
 mod keys;
 mod large;
+mod measures;
+mod nested;
+mod pages;
 mod prefixes;
 mod problems;
 mod proving;
+mod raws;
+mod reading;
 mod renamed;
+mod round;
 mod searched;
+mod shapes;
+mod shown;
+mod spelling;
 mod streams;
+mod texts;
+mod trees;
+mod typed;
 mod visits;
+mod written;
 
 use crate::folders::{Task, go_through_folder};
-use std::io;
+use crate::measures::measured;
+use std::fs::Files;
+use std::sync::Wait;
+use std::thread::Threads;
+use std::{env, io};
 
 const FILES: [&str; 27] = [
     "substituted.cases",
@@ -77,31 +99,50 @@ const COMMANDS: [&str; 7] = [
 /// Bundles whose proofs the call `cover` is made on, each behind its depth.
 const CALLS: &str = "calls.cases";
 
-fn main(rt: HostRuntime) -> io::Result<()> {
+/// Runs whole texts, command lines and bundles.
+fn run_all<R: Threads + Wait + Sync + AllocGlobal + Files + Print>(rt: &R) -> io::Result<()> {
     for name in &FILES {
-        cases::run_file(&rt, name)?;
+        cases::run_file(rt, name)?;
     }
-    command_lines::run_lines(&rt)?;
+    command_lines::run_lines(rt)?;
     for name in &COMMANDS {
-        command_lines::run_commands(&rt, name)?;
+        command_lines::run_commands(rt, name)?;
     }
-    searched::write_outputs(&rt)?;
-    searched::write_branches(&rt)?;
-    visits::write_visits(&rt)?;
-    keys::write_keys(&rt)?;
-    go_through_folder(&rt, Task::Run, "bytes")?;
-    go_through_folder(&rt, Task::Run, "examples")?;
-    go_through_folder(&rt, Task::Examine, "examples")?;
-    streams::run_commands(&rt, "examples")?;
-    bundles::tell_bundles(&rt)?;
+    searched::write_outputs(rt)?;
+    searched::write_branches(rt)?;
+    visits::write_visits(rt)?;
+    keys::write_keys(rt)?;
+    go_through_folder(rt, Task::Run, "bytes")?;
+    go_through_folder(rt, Task::Run, "examples")?;
+    go_through_folder(rt, Task::Examine, "examples")?;
+    streams::run_commands(rt, "examples")?;
+    bundles::tell_bundles(rt)?;
     println!(rt; "% prefixes")?;
-    prefixes::tell_prefixes(&rt, "small")?;
-    prefixes::tell_prefixes(&rt, "shared")?;
+    prefixes::tell_prefixes(rt, "small")?;
+    prefixes::tell_prefixes(rt, "shared")?;
     println!(rt; "% derivations")?;
-    go_through_folder(&rt, Task::Prove, "examples")?;
-    go_through_folder(&rt, Task::Check, "examples")?;
+    go_through_folder(rt, Task::Prove, "examples")?;
+    go_through_folder(rt, Task::Check, "examples")?;
     println!(rt; "% calls")?;
-    calls::call_file(&rt, CALLS)?;
-    failing::run_failing(&rt)?;
-    large::run_large(&rt)
+    calls::call_file(rt, CALLS)?;
+    failing::run_failing(rt)?;
+    large::run_large(rt)
+}
+
+/// Shows what parts do by themselves.
+fn show_parts<R: Threads + Wait + Sync + AllocGlobal + Files + Print>(rt: &R) -> io::Result<()> {
+    texts::read_all(rt)?;
+    explained::explain_all(rt)?;
+    pages::show_all(rt)?;
+    let shapes = measured(rt, "types")?;
+    println!(rt; "% types\n{shapes}")
+}
+
+fn main(rt: HostRuntime) -> io::Result<()> {
+    if let Some(word) = env::args(&rt)?.nth(1) {
+        let line = measured(&rt, &word)?;
+        return println!(rt; "{line}");
+    }
+    run_all(&rt)?;
+    show_parts(&rt)
 }

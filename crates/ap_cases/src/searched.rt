@@ -6,7 +6,7 @@ ghost use Rattle.ap_backchain.specs.Problems.{HasQuery};
 
 use crate::cases::DIVIDER;
 use crate::problems::{problem_of, program_of};
-use ap_answers::printing::{canonical, lines};
+use ap_answers::printing::lines;
 use ap_backchain::branch::Branch;
 use ap_backchain::problem::{Problem, outputs};
 use ap_defs::memory::Memory;
@@ -16,6 +16,7 @@ use ap_paths::Limit;
 use ap_program::restricted::Restricted;
 use ap_replay::error::ReplayError;
 use ap_replay::replay::at;
+use ap_values::shown::canonical;
 use std::alloc::{AllocError, Global};
 use std::fs::Files;
 use std::{fs, io};

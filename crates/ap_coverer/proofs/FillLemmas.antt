@@ -19,8 +19,8 @@ use Rattle.ap_complete.specs.Coverings.{replace_in_cond}
 use Rattle.ap_cover.specs.StatementsOnMatching.{matched_with}
 use Rattle.ap_theory.proofs.BooleanLemmas.{and_both}
 use Rattle.ap_theory.proofs.PermutationLemmas.{not_name}
-use Rattle.ap_types.specs.StatementsOnPicks.{EachName, IsNewName}
-use Rattle.ap_types.proofs.PickLemmas.{each_name}
+use Rattle.ap_picks.specs.StatementsOnPicks.{EachName, IsNewName}
+use Rattle.ap_picks.proofs.PickLemmas.{each_name}
 use Rattle.ap_property.specs.Stated.{given, picks_from}
 use Rattle.ap_property.specs.StatementsOnProperties.{HasTypedVars}
 use Rattle.ap_property.proofs.PickedLemmas.{fresh_apart, given_names, picks_give, picks_made}

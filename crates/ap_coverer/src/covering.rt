@@ -20,7 +20,7 @@ use ap_defs::memory::Memory;
 use ap_defs::outcomes::Proved;
 use ap_defs::paths::{Node, Path};
 use ap_defs::terms::{Swap, Term, Var};
-use ap_types::picker_of;
+use ap_picks::picker_of;
 use std::alloc::Global;
 
 /// What covers a ground proof: the answer at its path, with swappings of its names and a ground term for each of its

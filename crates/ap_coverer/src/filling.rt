@@ -4,7 +4,7 @@ ghost use Rattle.std.specs.Prelude.{◌≤◌, ◌<◌, IfOk, map};
 ghost use Rattle.ap_defs.specs.Answers.{answer_of};
 ghost use Rattle.ap_defs.specs.Types.{constructor_of};
 ghost use Rattle.ap_coverer.specs.Covering.{AreNamesBelow, IsFilled};
-ghost use Rattle.ap_types.specs.Pickers.{IsPicker};
+ghost use Rattle.ap_picks.specs.Pickers.{IsPicker};
 ghost use Rattle.ap_property.specs.StatementsOnProperties.{HasTypedVars};
 
 use ap_defs::memory::Memory;
@@ -12,7 +12,7 @@ use ap_defs::outcomes::Answer;
 use ap_defs::terms::{Cond, Name, Swap};
 use ap_instance::picks::{Picks, picks_of};
 use ap_perm::swappings::image;
-use ap_types::Picker;
+use ap_picks::Picker;
 use std::alloc::Global;
 
 /// A number that is at least this one, and above the name's. `Err` is want of numbers.

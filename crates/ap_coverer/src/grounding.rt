@@ -9,7 +9,7 @@ ghost use Rattle.ap_defs.specs.Types.{constructor_of, locals_of};
 ghost use Rattle.ap_instance.specs.Tables.{term_beside};
 ghost use Rattle.ap_clearing.specs.Clearing.{Clears, in_the_way, used_names};
 ghost use Rattle.ap_coverer.specs.Covering.{AreMatched, pairs_by, term_pair};
-ghost use Rattle.ap_types.specs.Pickers.{IsPicker};
+ghost use Rattle.ap_picks.specs.Pickers.{IsPicker};
 ghost use Rattle.ap_property.specs.StatementsOnProperties.{HasTypedVars};
 
 use crate::filling::filling;
@@ -21,7 +21,7 @@ use ap_defs::memory::Memory;
 use ap_defs::outcomes::Answer;
 use ap_defs::terms::{Swap, Term, Ty, Var};
 use ap_instance::picks::Picks;
-use ap_types::Picker;
+use ap_picks::Picker;
 use std::alloc::Global;
 
 /// A copy of the variable's term in a table, or of that in another one where it has none there.

@@ -8,7 +8,6 @@
 pub mod copies;
 pub mod faults;
 pub mod goals;
-pub mod ground;
 pub mod limits;
 pub mod lists;
 pub mod memory;

@@ -22,7 +22,7 @@ use ap_defs::memory::Memory;
 use ap_defs::terms::{Name, Swap, Var};
 use ap_perm::closures::{Closure, Lent, Opened};
 use ap_perm::joining::joined;
-use ap_perm::perm::Perm;
+use ap_perm::swappings::canonical_list;
 use ap_shared::arena::SharedTerms;
 use ap_shared::lines::Entry;
 use ap_store::store::Store;
@@ -99,7 +99,7 @@ fn canonical_of(alloc: Global, swaps: Vec<Swap>) -> Result<Vec<Swap>, Memory>
     if swaps.is_empty() {
         return Ok(swaps);
     }
-    Perm::of(alloc, &swaps)?.swaps(alloc)
+    canonical_list(alloc, &swaps)
 }
 
 /// The line of a variable that is not bound, with these swappings.

@@ -3,7 +3,7 @@
 ghost use Rattle.std.specs.Prelude.{◌≡◌, ◌≤◌, IfOk, length, map};
 ghost use Rattle.ap_defs.specs.Goals.{program_of, query_of};
 ghost use Rattle.ap_defs.specs.Types.{constructor_of};
-ghost use Rattle.ap_types.specs.Pickers.{IsPicker};
+ghost use Rattle.ap_picks.specs.Pickers.{IsPicker};
 ghost use Rattle.ap_program.specs.Typed.{AreTypedQueries, IsTypedQuery, term_form};
 ghost use Rattle.ap_examine.specs.Exams as exams;
 ghost use Rattle.ap_examine.specs.Reports.{exams_from};
@@ -21,8 +21,8 @@ use ap_defs::terms::Term;
 use ap_instance::{copy_constructors, copy_query, hypothesis_of};
 use ap_io::Gate;
 use ap_paths::Limit;
+use ap_picks::{Picker, picker_of};
 use ap_program::restricted::Restricted;
-use ap_types::{Picker, picker_of};
 use std::alloc::Global;
 use std::sync::Wait;
 use std::thread::Threads;

@@ -22,8 +22,8 @@ use Rattle.ap_theory.proofs.ExchangeLemmas.{extension_goes, new_names_different,
 use Rattle.ap_theory.proofs.PermutationLemmas.{name_eq_itself, name_eq_same}
 use Rattle.ap_ground.specs.TypedGroundings.{HaveInhabitants}
 use Rattle.ap_ground.proofs.ListLemmas.{first_names_different, has_first_names}
-use Rattle.ap_types.specs.StatementsOnPicks.{EachName, IsNewName}
-use Rattle.ap_types.proofs.PickLemmas.{each_name}
+use Rattle.ap_picks.specs.StatementsOnPicks.{EachName, IsNewName}
+use Rattle.ap_picks.proofs.PickLemmas.{each_name}
 use Rattle.ap_property.specs.Stated.{given, other_names, picks_from, settling, stated}
 use Rattle.ap_property.proofs.PickedLemmas.{act_apart, given_names, picks_made}
 use Rattle.ap_property.proofs.SettlingLemmas.{settling_leaves, swaps_leave}

@@ -10,7 +10,7 @@ use Rattle.ap_defs.specs.Terms.{GroundTerm, NominalTerm, term_of}
 use Rattle.ap_defs.specs.Types.{NominalConstructor, NominalType}
 use Rattle.ap_defs.specs.Typing.{embedded}
 use Rattle.ap_theory.proofs.TermLemmas.{same_var, var_same}
-use Rattle.ap_types.specs.Picks.{picked}
+use Rattle.ap_picks.specs.Picks.{picked}
 use Rattle.ap_property.specs.Stated.{given, picks_from}
 use Rattle.ap_instance.specs.Tables.{term_at_place, term_beside}
 

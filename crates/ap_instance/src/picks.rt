@@ -8,13 +8,13 @@ ghost use Rattle.ap_defs.specs.Types.{constructor_of};
 ghost use Rattle.ap_defs.specs.declared.terms.Var.{Var};
 ghost use Rattle.ap_ground.specs.TypedGroundings.{HaveInhabitants};
 ghost use Rattle.ap_instance.specs.Tables.{IsTableOf, term_beside};
-ghost use Rattle.ap_types.specs.Pickers.{IsPicker};
+ghost use Rattle.ap_picks.specs.Pickers.{IsPicker};
 ghost use Rattle.ap_property.specs.Stated.{picks_from};
 
 use ap_defs::copies::copy_term;
 use ap_defs::memory::Memory;
 use ap_defs::terms::{Term, Ty, Var};
-use ap_types::Picker;
+use ap_picks::Picker;
 use indexmap::IndexSet;
 use std::alloc::Global;
 

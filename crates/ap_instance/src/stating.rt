@@ -9,7 +9,7 @@ ghost use Rattle.ap_defs.specs.Walks.{term_in_frames, term_made, term_work, term
 ghost use Rattle.ap_ground.specs.TypedGroundings.{HaveInhabitants};
 ghost use Rattle.ap_instance.specs.Tables.{settled_term};
 ghost use Rattle.ap_instance.specs.Views.{IsStated};
-ghost use Rattle.ap_types.specs.Pickers.{IsPicker};
+ghost use Rattle.ap_picks.specs.Pickers.{IsPicker};
 ghost use Rattle.ap_property.specs.Stated.{stated};
 
 use crate::names::{Names, names_of_answer};
@@ -20,7 +20,7 @@ use ap_defs::outcomes::Answer;
 use ap_defs::spines::TermLayer;
 use ap_defs::terms::{Name, Term};
 use ap_defs::walks::{TermFrame, TermPart, leave_term};
-use ap_types::Picker;
+use ap_picks::Picker;
 use std::alloc::Global;
 
 /// A ground term for each free variable of a query, and the sorts of their names that are none of the query's,

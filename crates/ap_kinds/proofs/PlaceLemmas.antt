@@ -12,7 +12,7 @@ use Rattle.ap_types.specs.Equations.{Filling, filled}
 use Rattle.ap_types.specs.Solving.{shape_at}
 use Rattle.ap_types.specs.Triangular.{layer_of, shapes_of_nodes, value_of, assignment_of, IsSettledTable}
 use Rattle.ap_types.specs.Walking.{is_part, IsPart, AreInOrder}
-use Rattle.ap_types.specs.Writing.{IsEntryOf}
+use Rattle.ap_types.specs.Entries.{IsEntryOf}
 use Rattle.ap_types.proofs.TableLemmas.{at_past, layer_at, length_table}
 use Rattle.ap_types.proofs.SettledLemmas.{open_value, past_value, length_values, value_at}
 use Rattle.ap_kinds.specs.declared.read_types.Declared.{Declared}

@@ -12,9 +12,9 @@ use crate::read_types::{
 };
 use ap_defs::memory::Memory;
 use ap_defs::terms::Ty;
+use ap_types::entries::entry_at;
 use ap_types::nodes::Node;
 use ap_types::solved::Solved;
-use ap_types::writing::entry_at;
 use std::alloc::Global;
 use std::sync::Arc;
 

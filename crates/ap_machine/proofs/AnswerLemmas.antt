@@ -9,7 +9,7 @@ use Rattle.ap_defs.specs.Substitution.{under}
 use Rattle.ap_defs.specs.Terms.{NominalTerm, susp}
 use Rattle.ap_defs.specs.Types.{NominalKind, NominalLocal, NominalType}
 use Rattle.ap_defs.specs.declared.terms.Var.{Var}
-use Rattle.ap_perm.proofs.PermLemmas.{canonical_none}
+use Rattle.ap_perm.proofs.SwappingLemmas.{canonical_none}
 use Rattle.ap_store.proofs.FollowLemmas.{unbound_under}
 use Rattle.ap_store.proofs.StoreLemmas.{next_counts, store_sound}
 use Rattle.ap_store.specs.Views.{bindings_of, kinds, present, raw_bound}

@@ -5,7 +5,7 @@ use Rattle.ap_defs.specs.Terms.{NominalTerm, abs, app, pair}
 use Rattle.ap_defs.specs.Unification.{size}
 use Rattle.ap_defs.specs.declared.terms.Name.{Name}
 use Rattle.ap_defs.specs.declared.terms.Swap.{Swap}
-use Rattle.ap_perm.proofs.PermLemmas.{canonical_none}
+use Rattle.ap_perm.proofs.SwappingLemmas.{canonical_none}
 use Rattle.ap_store.specs.declared.store.Store.{Store}
 use Rattle.ap_machine.specs.Closed.{closed_round, closed_within, round_work, rounds_work}
 use Rattle.ap_machine.specs.declared.closing.Round.{Round}

@@ -17,7 +17,7 @@ use ap_defs::memory::Memory;
 use ap_defs::terms::{Swap, Term};
 use ap_perm::closures::{Closure, Lent, Opened};
 use ap_perm::joining::copied;
-use ap_perm::perm::Perm;
+use ap_perm::swappings::canonical_list;
 use ap_store::store::Store;
 use std::alloc::Global;
 
@@ -49,7 +49,7 @@ pub(crate) fn canonical_of(alloc: Global, swaps: Vec<Swap>) -> Result<Vec<Swap>,
     if swaps.is_empty() {
         return Ok(swaps);
     }
-    Perm::of(alloc, &swaps)?.swaps(alloc)
+    canonical_list(alloc, &swaps)
 }
 
 /// Swappings that wait. Where there are none, those that are given are shared, which are none either.

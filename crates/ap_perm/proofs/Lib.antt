@@ -2,15 +2,7 @@ pub mod SwappingLemmas
 pub mod ImageLemmas
 pub mod ExchangeLemmas
 pub mod DifferenceLemmas
-pub mod FlatLemmas
-pub mod UnionLemmas
-pub mod PermLemmas
 pub mod LookupLemmas
 pub mod ClosureLemmas
 pub mod VisitLemmas
-pub mod SetLemmas
 pub mod SortLemmas
-pub mod StepLemmas
-pub mod RenamedLemmas
-pub mod PendingLemmas
-pub mod DifferingLemmas

@@ -1,6 +1,7 @@
--- Steps of the loops over lists of swappings.
+-- Steps of the loops over lists of swappings, and the canonical list of none.
 use Rattle.std.proofs.Common.{◌≡◌, ◌<◌, ◌+◌, ℕ, List, [], ◌∷◌, ◌++◌, length, get_or, take, drop, refl, sym, ap, ◌∙◌, add-one}
 use Rattle.std.proofs.Math.Seq.{drop-cons, take-suc}
+use Rattle.ap_defs.specs.Canonical.{canonical}
 use Rattle.ap_defs.specs.Permutations.{act_name, differing, disagreement, inverse, names_of, swap_name}
 use Rattle.ap_defs.specs.declared.terms.Name.{Name}
 use Rattle.ap_defs.specs.declared.terms.Swap.{Swap}
@@ -23,3 +24,7 @@ names_of-append (s ∷ p) q = ap (λ as'. names_of (s ∷ []) ++ as') (names_of-
 
 pub disagreement_append : (p q r : List Swap) → r ≡ p ++ q → disagreement p q ≡ differing p q (names_of r)
 disagreement_append p q r h = ap (differing p q) (sym (ap names_of h ∙ names_of-append p q))
+
+pub canonical_none : canonical [] ≡ []
+unfolding canonical
+canonical_none = refl

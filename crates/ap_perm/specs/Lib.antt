@@ -1,11 +1,7 @@
 pub mod Names
 pub mod Images
-pub mod Flat
-pub mod FlatProps
 pub mod Lookups
 pub mod StatementsOnLookups
 pub mod BelowProps
 pub mod Closures
 pub mod Inner
-pub mod Reduction
-pub mod Differing

@@ -15,10 +15,10 @@ use std::alloc::Global;
 use std::collections::BTreeMap;
 
 /// The numbers of images, by the numbers and sorts of names. A name that isn't there stays.
-pub(crate) type Images = BTreeMap<(u64, u32), u64>;
+pub type Images = BTreeMap<(u64, u32), u64>;
 
 /// The image of a name.
-pub(crate) fn image_in(images: &Images, a: Name) -> Name
+pub fn image_in(images: &Images, a: Name) -> Name
     ensures { result ≡ image_by (tree.get key_cmp images.now) a }
 {
     match images.get(&(a.num, a.sort)) {
@@ -65,7 +65,7 @@ pub(crate) fn swap_after(images: &mut Images, origins: &mut Images, s: &Swap) ->
 }
 
 /// The images under a list of swappings.
-pub(crate) fn images_of(alloc: Global, swaps: &[Swap]) -> Result<Images, Memory>
+pub fn images_of(alloc: Global, swaps: &[Swap]) -> Result<Images, Memory>
     ensures { IfOk result (λ images. AreImages swaps.now (tree.get key_cmp images)) }
 {
     let mut images = BTreeMap::new(alloc);

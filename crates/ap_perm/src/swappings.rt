@@ -68,7 +68,7 @@ pub fn preimage(swaps: &[Swap], a: Name) -> Name
 
 /// Whether two names are one.
 #[tactic(auto, unfolding(ap_defs::specs::Permutations::name_eq))]
-pub(crate) fn is_same(a: &Name, b: &Name) -> bool
+pub fn is_same(a: &Name, b: &Name) -> bool
     ensures { result ≡ name_eq a.now b.now }
 {
     a == b
@@ -124,7 +124,7 @@ pub fn differing(alloc: Global, p: &[Swap], q: &[Swap]) -> Result<Vec<Name>, Mem
 /// least name that is moved is exchanged with its image, and then what is left is exchanged.
 ///
 /// Names are exchanged in ascending order, and those that come before are moved no more.
-pub(crate) fn exchanged(
+pub fn exchanged(
     alloc: Global,
     mut images: Images,
     mut origins: Images,

@@ -2,5 +2,4 @@
 //! restriction.
 #![tactic(auto)]
 
-pub mod renaming;
 pub mod restricted;

@@ -18,9 +18,9 @@ use Rattle.ap_theory.proofs.BooleanLemmas.{and_both, or_cases, or_if_right}
 use Rattle.ap_theory.proofs.TermLemmas.{same_var, var_same}
 use Rattle.ap_ground.specs.TypedGroundings.{GivesTypes, HaveInhabitants}
 use Rattle.ap_ground.proofs.FillerLemmas.{gives_types, only_vars}
-use Rattle.ap_types.specs.Picks.{picked}
-use Rattle.ap_types.specs.StatementsOnPicks.{EachName, IsNewName}
-use Rattle.ap_types.proofs.PickLemmas.{each_name, picks_typed}
+use Rattle.ap_picks.specs.Picks.{picked}
+use Rattle.ap_picks.specs.StatementsOnPicks.{EachName, IsNewName}
+use Rattle.ap_picks.proofs.PickLemmas.{each_name, picks_typed}
 use Rattle.ap_property.specs.Stated.{given, picks_from}
 
 -- Names of ground terms.

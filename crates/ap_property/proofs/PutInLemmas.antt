@@ -17,7 +17,7 @@ use Rattle.ap_defs.specs.Typing.{IsApplication, IsTyped, Want, arguments, embedd
 use Rattle.ap_program.specs.RawTyping.{HasTermType, IsNameOf, IsTypedTerm}
 use Rattle.ap_program.specs.Typed.{AreArguments, HaveTypes, AreMarked, EachOnce, IsTypedGoal, IsTypedQuery, brought, is_marked, stands_free, stands_in_term, term_form}
 use Rattle.ap_search.proofs.TypingLemmas.{kind_at_front, typed_front}
-use Rattle.ap_types.specs.StatementsOnPicks.{EachName}
+use Rattle.ap_picks.specs.StatementsOnPicks.{EachName}
 use Rattle.ap_property.specs.Fitting.{FitsLocals, HaveKnownNames, IsKnown}
 use Rattle.ap_property.specs.Properties.{conclusion, conclusion_query}
 use Rattle.ap_property.specs.PutIn.{query_put_in, with_terms}

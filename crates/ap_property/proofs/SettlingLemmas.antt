@@ -21,8 +21,8 @@ use Rattle.ap_theory.proofs.ExchangeLemmas.{extension_goes, extension_other, new
 use Rattle.ap_theory.proofs.PermutationLemmas.{act_sort, name_eq_same, name_eq_itself, not_name, swap_name_fixes}
 use Rattle.ap_ground.proofs.ListLemmas.{first_names_different, has_first_names}
 use Rattle.ap_complete.specs.Coverings.{replace_in_cond}
-use Rattle.ap_types.specs.StatementsOnPicks.{EachName, IsNewName}
-use Rattle.ap_types.proofs.PickLemmas.{each_name}
+use Rattle.ap_picks.specs.StatementsOnPicks.{EachName, IsNewName}
+use Rattle.ap_picks.proofs.PickLemmas.{each_name}
 use Rattle.ap_property.specs.Fitting.{HaveKnownNames, IsKnown}
 use Rattle.ap_property.specs.Stated.{other_names, settling}
 use Rattle.ap_property.proofs.LocalLemmas.{name_at}

@@ -7,7 +7,7 @@ use Rattle.ap_defs.specs.Renaming.{local_names, local_vars}
 use Rattle.ap_defs.specs.Resolution.{kinds_of}
 use Rattle.ap_defs.specs.Terms.{GroundTerm}
 use Rattle.ap_defs.specs.Types.{NominalConstructor, NominalLocal}
-use Rattle.ap_types.specs.StatementsOnPicks.{EachName}
+use Rattle.ap_picks.specs.StatementsOnPicks.{EachName}
 use Rattle.ap_property.specs.Stated.{Instance}
 
 -- the name is a free name of the query, or one of those that are numbered on from its identifiers, with the sort at its place

@@ -12,7 +12,7 @@ use Rattle.ap_defs.specs.Renaming.{local_names, replace_names}
 use Rattle.ap_defs.specs.Terms.{GroundTerm, unit}
 use Rattle.ap_defs.specs.Types.{NominalConstructor, NominalLocal, NominalType}
 use Rattle.ap_theory.specs.Exchanges.{extension, renumbered}
-use Rattle.ap_types.specs.Picks.{picked}
+use Rattle.ap_picks.specs.Picks.{picked}
 
 -- the names of an answer that are none of the query's, in order of their first occurrence
 abbrev pub other_names : List NominalLocal → NominalAnswer → List Name

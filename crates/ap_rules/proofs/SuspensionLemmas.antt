@@ -39,6 +39,15 @@ form_under s (app f t) h = tt
 form_under s (abs a t) h = tt
 form_under s (susp p x) h = absurd h
 
+-- and no bound variable stands at its head
+pub form_unbound : (s : List Binding) (t : NominalTerm) → HasForm t → IsHeadUnbound s t
+form_unbound s unit h = tt
+form_unbound s (name a) h = tt
+form_unbound s (pair t u) h = tt
+form_unbound s (app f t) h = tt
+form_unbound s (abs a t) h = tt
+form_unbound s (susp p x) h = absurd h
+
 pub rule_binds_left : (p : List Swap) (x : Var) (u : NominalTerm) → HasForm u → rule (susp p x) u ≡ unless_occurs x u (act_term (inverse p) u)
 rule_binds_left p x unit h = refl
 rule_binds_left p x (name a) h = refl

@@ -14,11 +14,13 @@ use Rattle.ap_perm.specs.Closures.{opened_term}
 use Rattle.ap_perm.specs.declared.closures.Opened.{Opened}
 use Rattle.ap_perm.specs.declared.closures.Opened.TheVariants as parts
 use Rattle.ap_store.specs.Heads.{IsHeadUnbound}
+use Rattle.ap_store.specs.Marks.{HasNoVars}
 use Rattle.ap_store.specs.Triples.{IsPrefixOf, Triple, is_on, with_binding}
 use Rattle.ap_theory.proofs.IdempotenceLemmas.{bound_term_unbound}
+use Rattle.ap_theory.proofs.SubstitutionLemmas.{put_absent}
 use Rattle.ap_theory.specs.Variables.{IsUnbound}
 use Rattle.ap_rules.proofs.TakenLemmas.{taken_more}
-use Rattle.ap_rules.proofs.RunLemmas.{bind_in_under, names_under, replaced}
+use Rattle.ap_rules.proofs.RunLemmas.{bind_in_under, names_under, replaced, under_bind}
 use Rattle.ap_rules.specs.Runs.{equation_under, problem_under, stage_under}
 use Rattle.ap_rules.specs.Work.{ArePairsBelow, GoOn, IsPairBelow, opened_under, pair_equation, pair_under, problem_for}
 use Rattle.ap_rules.specs.declared.pairs.ClosurePair.{ClosurePair}
@@ -104,15 +106,21 @@ carried_bound s r x v es fs ps qs u e h k =
 
 -- How triples and work go on.
 pub go_same : (a : Triple) (w v : Work) → (ArePairsBelow a.next w.equations.items → ArePairsBelow a.next v.equations.items) → v.taken.items ≡ w.taken.items → GoOn a w a v
-go_same a w v h e = record { next = refl; pairs = h; conditions = λ ds k c. k c ∙ ap (λ ts. has_cond c (a.conditions ++ ts)) (sym e) }
+go_same a w v h e = record { next = refl; pairs = h; conditions = λ ds k c. k c ∙ ap (λ ts. has_cond c (a.conditions ++ ts)) (sym e); no_vars = λ t k. k }
 
-pub go_bound : (a b : Triple) (w v : Work) (x : Var) (t : NominalTerm) → b ≡ with_binding x t a → v.equations.items ≡ w.equations.items → v.taken.items ≡ w.taken.items ++ filter (is_on x) a.conditions → GoOn a w b v
-go_bound a b w v x t e h k = record {
+-- no binding brings a variable where none is left
+no_vars_stay : (bs : List Binding) (x : Var) (v : NominalTerm) → IsUnbound bs x → (t : NominalTerm) → HasNoVars (under bs t) → HasNoVars (under ((x := v) ∷ map (put_binding x v) bs) t)
+no_vars_stay bs x v u t h = subst HasNoVars (sym (under_bind x v bs u t ∙ put_absent x v (under bs t) (h x))) h
+
+pub go_bound : (a b : Triple) (w v : Work) (x : Var) (t : NominalTerm) → IsUnbound a.bindings x → b ≡ with_binding x t a → v.equations.items ≡ w.equations.items
+    → v.taken.items ≡ w.taken.items ++ filter (is_on x) a.conditions → GoOn a w b v
+go_bound a b w v x t i e h k = record {
   next = ap (λ (c : Triple). c.next) e;
   pairs = λ p. subst (ArePairsBelow a.next) (sym h) p;
   conditions = λ ds m c.
       taken_more ds a.conditions w.taken.items x m c
       ∙ ap₂ (λ cs ts. has_cond c (cs ++ ts)) (sym (ap (λ (d : Triple). d.conditions) e)) (sym k);
+  no_vars = λ u m. subst (λ (d : Triple). HasNoVars (under d.bindings u)) (sym e) (no_vars_stay a.bindings x t i u m);
 }
 
 pub go_on_on : (a b c : Triple) (u v w : Work) → GoOn a u b v → GoOn b v c w → GoOn a u c w
@@ -120,6 +128,7 @@ go_on_on a b c u v w h k = record {
   next = k.next ∙ h.next;
   pairs = λ p. subst (λ n. ArePairsBelow n w.equations.items) h.next (k.pairs (subst (λ n. ArePairsBelow n v.equations.items) (sym h.next) (h.pairs p)));
   conditions = λ ds p. k.conditions ds (h.conditions ds p);
+  no_vars = λ t p. k.no_vars t (h.no_vars t p);
 }
 
 pub goes_on_on : (as' bs cs : List Triple) → IsPrefixOf as' bs → IsPrefixOf bs cs → IsPrefixOf as' cs

@@ -95,8 +95,9 @@ ending_if true s = solved s
 abbrev pub AreKept : Conds → Conds → List Cond → Type 0
 AreKept ds kept taken = (c : Cond) → has_cond c ds ≡ has_cond c (kept ++ taken)
 
--- the second triple and work go on with the first ones
+-- the second triple and work go on with the first ones; where no variable is left, none comes
 pub record GoOn (a : Triple) (w : Work) (b : Triple) (v : Work) : Type 0 where
   pub next : b.next ≡ a.next
   pub pairs : ArePairsBelow a.next w.equations.items → ArePairsBelow a.next v.equations.items
   pub conditions : (ds : Conds) → AreKept ds a.conditions w.taken.items → AreKept ds b.conditions v.taken.items
+  pub no_vars : (t : NominalTerm) → HasNoVars (under a.bindings t) → HasNoVars (under b.bindings t)

@@ -12,8 +12,9 @@ ghost use Rattle.ap_show.specs.Predicates.{predicate_words};
 use ap_defs::lists::Text;
 use ap_defs::memory::Memory;
 use ap_lexer::{LexError, Token, lex};
-use ap_syntax::{SynError, parse};
+use ap_syntax::SynError;
 use ap_trees::{Form, Item};
+use ap_whole::parse;
 use std::alloc::Global;
 
 /// Keeps the word of an item, where it declares a predicate.

@@ -5,7 +5,7 @@ ghost use Rattle.ap_paths.specs.Entries.{entries_of};
 ghost use Rattle.ap_paths.specs.Limits.{AreWithin, part};
 ghost use Rattle.ap_paths.specs.History.{is_legal, has_stop, open_of};
 ghost use Rattle.ap_paths.specs.Merging.{merged};
-ghost use Rattle.ap_tools.specs.declared.histories.events.Event.{Event};
+ghost use Rattle.ap_tools.specs.declared.events.Event.{Event};
 ghost use Rattle.ap_tools.specs.States.{WorkersState, start_state};
 ghost use Rattle.ap_tools.specs.Traces.{AreSeats, IsInOrder, EventsLead};
 ghost use Rattle.ap_tools.specs.Seats.{logs_of};

@@ -14,5 +14,6 @@ pub mod FollowLemmas
 pub mod ReachLemmas
 pub mod OccurrenceLemmas
 mod WaitingLemmas
+pub mod PassedLemmas
 mod NarrowLemmas
 pub mod WalkLemmas

@@ -47,10 +47,6 @@ module _ (s : Store) where
   pub one_waits : (x : Var) (bs more : List Bare) (b : Bare) → more ≡ bs ++ b ∷ [] → occurs_in_any s x more ≡ (occurs_in s x b || occurs_in_any s x bs)
   one_waits x bs more b e = ap (occurs_in_any s x) e ∙ any_last x bs b
 
-  -- the last of them comes next, where the variable does not occur in the part before
-  pub comes_next : (x : Var) (here : Bool) (all bs : List Bare) (b : Bare) → here ≡ false → all ≡ bs ++ b ∷ [] → (occurs_in s x b || occurs_in_any s x bs) ≡ (here || occurs_in_any s x all)
-  comes_next x here all bs b h e = sym (one_waits x bs all b e) ∙ sym (ap (λ o. o || occurs_in_any s x all) h)
-
   -- none is left
   pub none_left : (x : Var) (here : Bool) (all : List Bare) → here ≡ false → all ≡ [] → false ≡ (here || occurs_in_any s x all)
   none_left x here all h e = sym (ap (λ o. o || occurs_in_any s x all) h ∙ ap (occurs_in_any s x) e)

@@ -1,5 +1,5 @@
 -- What a look at a variable finds.
-use Rattle.std.specs.Prelude.{◌≡◌, Bool, true, false, List, [], Option, Some, None}
+use Rattle.std.specs.Prelude.{◌≡◌, ◌⊎◌, Bool, true, false, List, [], Option, Some, None}
 use Rattle.ap_defs.specs.Renaming.{rename_term}
 use Rattle.ap_defs.specs.Substitution.{occurs, under}
 use Rattle.ap_defs.specs.Terms.{NominalTerm, act_term, susp, term_of}
@@ -7,8 +7,12 @@ use Rattle.ap_defs.specs.declared.terms.Swap.{Swap}
 use Rattle.ap_defs.specs.declared.terms.Var.{Var}
 use Rattle.ap_store.specs.declared.bare.Bare.{Bare}
 use Rattle.ap_store.specs.Marks.{HasNoVars}
+use Rattle.ap_store.specs.Passed.{is_mark_at}
 use Rattle.ap_store.specs.Views.{bindings_of, raw_bound}
 use Rattle.ap_store.specs.declared.occurrences.Occurrence.{Occurrence}
+use Rattle.ap_store.specs.declared.occurrences.Once.{Once}
+use Rattle.ap_store.specs.declared.occurrences.Once.TheVariants as onces
+use Rattle.ap_store.specs.declared.passed.Passed.{Passed}
 use Rattle.ap_store.specs.declared.occurrences.Occurrence.TheVariants as occurrences
 use Rattle.ap_store.specs.declared.occurrences.Sight.{Sight}
 use Rattle.ap_store.specs.declared.occurrences.Sight.TheVariants as sights
@@ -48,6 +52,12 @@ abbrev pub IsSight : Store → Var → Sight → Type 0
 IsSight s x sights.Unbound = raw_bound s x ≡ None
 IsSight s x sights.Ground = HasNoVars (under (bindings_of s) (susp [] x))
 IsSight s x (sights.Below b) = (p : List Swap) × (raw_bound s x ≡ Some (act_term p (bare_term b)))
+
+-- the same, but that a variable that was gone through already has nothing new
+abbrev pub IsOnce : Store → Var → Passed → Once → Type 0
+IsOnce s x p onces.Unbound = raw_bound s x ≡ None
+IsOnce s x p onces.Nothing = HasNoVars (under (bindings_of s) (susp [] x)) ⊎ (is_mark_at p.marks.items x.num ≡ true)
+IsOnce s x p (onces.Below b) = (q : List Swap) × (raw_bound s x ≡ Some (act_term q (bare_term b)))
 
 -- whether the variable occurs
 abbrev pub does_occur : Occurrence → Bool

@@ -7,6 +7,7 @@ pub mod Trails
 pub mod Slots
 pub mod Marks
 pub mod Likes
+pub mod Passed
 pub mod Founds
 pub mod Narrow
 pub mod Views

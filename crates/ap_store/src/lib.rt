@@ -11,6 +11,7 @@ mod likes;
 mod lookups;
 mod narrow;
 pub mod occurrences;
+mod passed;
 pub mod slots;
 pub mod store;
 mod tables;

@@ -4,7 +4,7 @@ ghost use Rattle.std.specs.Prelude.{◌≡◌, ◌==◌, ◌↔◌, ◌⊎◌, �
 ghost use Rattle.ap_defs.specs.Substitution.{occurs, under};
 ghost use Rattle.ap_defs.specs.Terms.{susp};
 ghost use Rattle.ap_defs.specs.declared.terms.Var.{Var as variable};
-ghost use Rattle.ap_store.specs.Founds.{IsSight, bare_term, does_occur, occurs_in};
+ghost use Rattle.ap_store.specs.Founds.{IsOnce, IsSight, bare_term, does_occur, occurs_in};
 ghost use Rattle.ap_store.specs.Likes.{HaveSameVars};
 ghost use Rattle.ap_store.specs.Marks.{HasNoVars};
 ghost use Rattle.ap_store.specs.Slots.{var_at};
@@ -12,6 +12,7 @@ ghost use Rattle.ap_store.specs.Views.{bindings_of, meaning_in};
 
 use crate::bare::Bare;
 use crate::narrow::{Narrowed, narrow_down};
+use crate::passed::{Passed, is_passed, pass};
 use crate::slots::Found;
 use crate::store::Store;
 use ap_defs::memory::Memory;
@@ -87,6 +88,32 @@ pub(crate) fn seen<'a>(store: &Store<'a>, x: Var) -> Sight<'a>
     }
 }
 
+/// What a look that goes through each variable once sees of one: it is unbound; it stands for a term without
+/// variables, or was gone through already; or the term of what it is bound to.
+#[derive(Clone, Copy)]
+pub enum Once<'a> {
+    Unbound,
+    Nothing,
+    Below(Bare<'a>),
+}
+
+/// What is seen of a variable by a look that has gone through others. It takes no memory.
+fn seen_once<'a>(store: &Store<'a>, passed: &Passed, x: Var) -> Once<'a>
+    ensures { IsOnce store.now x passed.now result }
+{
+    match seen(store, x) {
+        Sight::Unbound => Once::Unbound,
+        Sight::Ground => Once::Nothing,
+        Sight::Below(b) => {
+            if is_passed(passed, x) {
+                Once::Nothing
+            } else {
+                Once::Below(b)
+            }
+        }
+    }
+}
+
 /// A variable does not occur where all was looked through; unbound ones may have been seen.
 fn without(is_open: bool) -> Occurrence
     ensures { result ≡ (if is_open then Occurrence.Apart else Occurrence.Ground) }
@@ -106,7 +133,9 @@ fn end_of(b: Bare<'_>) -> u64
 }
 
 /// Whether the variable occurs in what a part stands for. The right parts of pairs wait on a stack while the left
-/// ones are looked through, so a term may be deep on either side.
+/// ones are looked through, so a term may be deep on either side. Once many variables were gone through they are
+/// marked, so that a term which has them in many places takes no longer than one which has them once.
+#[tactic(auto, using(crate::proofs::PassedLemmas::left_first))]
 fn occurs_below<'a>(
     alloc: Global,
     store: &Store<'a>,
@@ -120,12 +149,17 @@ fn occurs_below<'a>(
 {
     let mut is_open = false;
     let mut waiting = Vec::new(alloc);
+    let mut passed = Passed {
+        marks: Vec::new(alloc),
+        count: 0,
+    };
     let mut base = first.base;
     let mut end = first.end;
     let mut rest = first.term;
     'seeking: loop {
         match rest {
-            Term::Unit | Term::Name(_) => {}
+            Term::Unit => {}
+            Term::Name(_) => {}
             Term::Pair(left, right) => {
                 waiting.push(Bare {
                     base,
@@ -135,21 +169,26 @@ fn occurs_below<'a>(
                 rest = left;
                 continue;
             }
-            Term::App(_, inner) | Term::Abs(_, _, inner) => {
+            Term::App(_, inner) => {
+                rest = inner;
+                continue;
+            }
+            Term::Abs(_, _, inner) => {
                 rest = inner;
                 continue;
             }
             Term::Susp(_, y) => {
                 let y = Var { num: base + y.num };
-                match seen(store, y) {
-                    Sight::Below(b) => {
+                match seen_once(store, &passed, y) {
+                    Once::Below(b) => {
+                        pass(alloc, &mut passed, store.next(), y)?;
                         base = b.base;
                         end = end_of(b);
                         rest = b.term;
                         continue;
                     }
-                    Sight::Ground => {}
-                    Sight::Unbound => {
+                    Once::Nothing => {}
+                    Once::Unbound => {
                         if x.num == y.num {
                             return Ok(Occurrence::Occurs);
                         }

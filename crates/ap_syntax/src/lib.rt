@@ -1,4 +1,4 @@
-//! The parser: tokens as items, or the first faulty item.
+//! The parser: the symbols of a text's next item, and the item that they read as, or its fault.
 //!
 //! `specs/GoalGrammar.antt` and `specs/ItemGrammar.antt` are the grammars of goals and items,
 //! `specs/Nesting.antt` says how deep an item is, and `specs/Reading.antt` what tokens read as.
@@ -17,4 +17,4 @@ mod reading;
 
 pub use faults::SynError;
 pub use front::{Front, item_of_front, next_front};
-pub use reading::parse;
+pub use reading::{fault, form_item};

@@ -2,9 +2,9 @@ use crate::perm::{NothingBound, name, swap};
 use ap_defs::lists::Swaps;
 use ap_defs::memory::Memory;
 use ap_defs::terms::{Cond, Name, Term, Var};
+use ap_fresh::error::FreshError;
+use ap_fresh::reduction::reduce;
 use ap_perm::closures::Closure;
-use ap_perm::error::FreshError;
-use ap_perm::reduction::reduce;
 use std::alloc::Global;
 
 const C: Name = Name { sort: 0, num: 2 };

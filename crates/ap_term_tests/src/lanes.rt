@@ -1,6 +1,6 @@
 use ap_defs::memory::Memory;
 use ap_index::matching::{matches, next_match};
-use ap_perm::differing::differ;
+use ap_values::differing::differ;
 use std::alloc::Global;
 
 /// So many keys: 0, 1 and 2 in turn.

@@ -1,5 +1,5 @@
 //! Tests of the crates of terms, types and unification: `ap_defs`, `ap_types`, `ap_perm`, `ap_program` and
-//! `ap_store`, and of `ap_index`. What texts show of other crates stands in the data of `ap_cases` and `ap_part_cases`.
+//! `ap_store`, and of `ap_index`. What texts show of other crates stands in the data of `ap_cases`.
 #![tactic(auto)]
 
 #[cfg(test)]

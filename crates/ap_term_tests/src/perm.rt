@@ -5,7 +5,7 @@ use ap_defs::terms::{Name, Swap, Term, Var};
 use ap_perm::closures::{Closure, Lent, Opened};
 use ap_perm::laws::{bindings_are_carried_out, idempotent_lists};
 use ap_perm::look::Look;
-use ap_perm::perm::Perm;
+use ap_values::perm::Perm;
 use std::alloc::Global;
 
 const A: Name = Name { sort: 0, num: 0 };

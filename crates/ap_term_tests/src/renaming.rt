@@ -5,7 +5,7 @@ use ap_defs::goals::{Clause, Fresh, Goal, Kind, Local};
 use ap_defs::lists::{List, SharedText, Swaps, Text};
 use ap_defs::memory::Memory;
 use ap_defs::terms::{Term, Ty, Var};
-use ap_program::renaming::rename;
+use ap_values::renaming::rename;
 use std::alloc::Global;
 
 fn variable(alloc: Global, num: u64) -> Result<Term, Memory>

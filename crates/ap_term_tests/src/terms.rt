@@ -1,9 +1,9 @@
 use ap_defs::copies::{copy_kind, copy_term, copy_type};
 use ap_defs::goals::Kind;
-use ap_defs::ground::{alpha_eq, fresh_ground};
 use ap_defs::lists::{Swaps, Text};
 use ap_defs::memory::Memory;
 use ap_defs::terms::{Ground, Name, Swap, Term, Ty, Var};
+use ap_values::ground::{alpha_eq, fresh_ground};
 use std::alloc::Global;
 use std::sync::Arc;
 

@@ -3,11 +3,11 @@ use ap_defs::lists::{List, Text};
 use ap_defs::memory::Memory;
 use ap_defs::terms::{Assignment, Shape, Ty};
 use ap_types::answers::{inhabited, may_hold};
-use ap_types::equations::{solve, solved};
+use ap_types::equations::solved;
 use ap_types::errors::TypesError;
 use ap_types::holding::{holds, types_holding};
 use ap_types::inhabitants::{Inhabitants, declare, is_inhabited, no_inhabitants};
-use ap_types::solved::value_of;
+use ap_values::solutions::{solve, value_of};
 use std::alloc::Global;
 use std::sync::Arc;
 

@@ -9,3 +9,6 @@ mod OrderLemmas
 mod DepthLemmas
 mod WorkOutLemmas
 mod SumLemmas
+pub mod Examples
+pub mod LengthLemmas
+mod QueryLemmas

@@ -7,3 +7,4 @@ pub mod Rows
 pub mod Laws
 pub mod Sums
 pub mod WorkReports
+pub mod Generated

@@ -4,7 +4,7 @@ use Rattle.std.specs.Fmt.{decimal}
 use Rattle.ap_defs.specs.Answers.{NominalOut, query_outs}
 use Rattle.ap_defs.specs.Goals.{NominalProgram, NominalQuery}
 use Rattle.ap_defs.specs.Lines.{count_of, is_cut, is_found, is_stuck, program_report}
-use Rattle.ap_words.specs.Generated.{generated}
+use Rattle.ap_text_commands.specs.Generated.{generated}
 use Rattle.ap_report.specs.declared.report.Report.{Report}
 use Rattle.ap_report.specs.declared.status.Status.TheVariants as status
 use Rattle.ap_report.specs.TextReport.{IsTextReport}

@@ -7,10 +7,7 @@ pub mod Whole
 pub mod Places
 pub mod Moving
 pub mod Permitted
-pub mod Wholes
 pub mod OneWorker
-pub mod Stepping
-pub mod Covering
 pub mod Moves
 pub mod Spares
 pub mod Closings

@@ -4,8 +4,8 @@ use Rattle.std.specs.Prelude.{slice_get}
 use mathlib.Core.Logic.{dite}
 use native.Mathlib.Decide.{ℕ_discrete}
 use Rattle.ap_paths.specs.Entries.{TreeEntry, split, done, skip}
-use Rattle.ap_tools.specs.declared.histories.events.Event.{Event}
-use Rattle.ap_tools.specs.declared.histories.events.Event.TheVariants.{Push, Steal, Split, Done, Skip}
+use Rattle.ap_tools.specs.declared.events.Event.{Event}
+use Rattle.ap_tools.specs.declared.events.Event.TheVariants.{Push, Steal, Split, Done, Skip}
 use Rattle.ap_paths.specs.History.{kids_of}
 use Rattle.ap_paths.specs.Trees.{Choices, Outputs, AreKids}
 use Rattle.ap_paths.specs.Weights.{weigh}

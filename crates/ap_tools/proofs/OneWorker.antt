@@ -1,8 +1,8 @@
 -- One worker keeps the pending paths in order: its hand, and then its deque from the back.
 use Rattle.std.proofs.Common.{◌≡◌, ℕ, zero, suc, ◌&&◌, List, [], ◌∷◌, ◌++◌, sym, refl, ap, ◌∙◌, subst, append_assoc, true, nat_le, le-leb, leb-true, arith}
 use Rattle.std.proofs.lemmas.Bool.{and_parts}
-use Rattle.ap_tools.specs.declared.histories.events.Event.{Event}
-use Rattle.ap_tools.specs.declared.histories.events.Event.TheVariants.{Push, Pop, Steal, Split, Done, Skip}
+use Rattle.ap_tools.specs.declared.events.Event.{Event}
+use Rattle.ap_tools.specs.declared.events.Event.TheVariants.{Push, Pop, Steal, Split, Done, Skip}
 use Rattle.ap_paths.specs.Entries.{TreeEntry, split, done, skip, stop}
 use Rattle.ap_paths.specs.History.{are_reached, kids_of}
 use Rattle.ap_paths.specs.Trees.{Choices, Outputs, AreKids, AreTrue}

@@ -1,7 +1,7 @@
 -- Each legal and true history with no stop is that of some permitted list of events, for two workers or more.
 use Rattle.std.proofs.Common.{◌≡◌, ℕ, ◌+◌, ◌<◌, Bool, true, false, ◌||◌, List, [], ◌∷◌, ◌++◌, sym, refl, ap, ◌∙◌, subst, true≢false, nat_le, leb-true, arith}
 use Rattle.std.proofs.lemmas.Bool.{and_parts}
-use Rattle.ap_tools.specs.declared.histories.events.Event.{Event}
+use Rattle.ap_tools.specs.declared.events.Event.{Event}
 use Rattle.ap_defs.specs.Answers.{NominalOut}
 use Rattle.ap_paths.specs.Entries.{TreeEntry, split, done, skip, stop}
 use Rattle.ap_paths.specs.History.{same_path, is_open, without, kids_of, has_stop, legal_from, are_reached, is_legal}

@@ -27,7 +27,7 @@ use Rattle.ap_tools.specs.Planned.{Plans, ArePlanned}
 use Rattle.ap_tools.proofs.Whole.{entries_of-append, has_stop-append, either_false, AllEnded, nothing_open, are_seats, planned_true}
 use Rattle.atomic_table.specs.Seated.{TableId}
 use Rattle.ap_paths.specs.declared.entries.Closed.{Closed}
-use Rattle.ap_tools.specs.declared.histories.events.Event.{Event}
+use Rattle.ap_tools.specs.declared.events.Event.{Event}
 use Rattle.ap_paths.specs.Trees.{Choices, Outputs, InChoiceTree, IsPlan, AreTrue}
 use Rattle.ap_tools.specs.States.{WorkersState, start_state}
 use Rattle.ap_tools.proofs.Permitted.{is_permitted}

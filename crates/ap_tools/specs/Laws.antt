@@ -1,6 +1,6 @@
 -- What holds of all permitted lists of events.
 use Rattle.std.specs.Prelude.{◌≡◌, ℕ, true, false, List, [], ◌∷◌}
-use Rattle.ap_tools.specs.declared.histories.events.Event.{Event}
+use Rattle.ap_tools.specs.declared.events.Event.{Event}
 use Rattle.ap_paths.specs.Entries.{TreeEntry}
 use Rattle.ap_paths.specs.declared.limits.Limit.{Limit}
 use Rattle.ap_paths.specs.Limits.{part}

@@ -6,9 +6,6 @@ pub mod States
 pub mod Steps
 pub mod Traces
 pub mod Laws
-pub mod Stages
-pub mod Single
-pub mod Covers
 pub mod Rule
 pub mod Ends
 pub mod Thieves

@@ -1,7 +1,7 @@
 -- The events: where each is permitted, and what it does.
 use Rattle.std.specs.Prelude.{◌≡◌, ◌≢◌, ℕ, ◌≤◌, Some, List, [], ◌∷◌, ◌++◌, slice_get, slice_set}
-use Rattle.ap_tools.specs.declared.histories.events.Event.{Event}
-use Rattle.ap_tools.specs.declared.histories.events.Event.TheVariants.{Push, Pop, Steal, Split, Done, Skip}
+use Rattle.ap_tools.specs.declared.events.Event.{Event}
+use Rattle.ap_tools.specs.declared.events.Event.TheVariants.{Push, Pop, Steal, Split, Done, Skip}
 use Rattle.ap_paths.specs.declared.limits.Limit.{Limit}
 use Rattle.ap_paths.specs.declared.limits.Limit.TheVariants as limits
 use Rattle.ap_paths.specs.History.{kids_of}

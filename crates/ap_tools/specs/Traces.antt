@@ -1,7 +1,7 @@
 -- The entries that a list of events makes.
 use Rattle.std.specs.Prelude.{◌≡◌, ℕ, ◌<◌, Some, List, [], ◌∷◌, ◌++◌, slice_get}
-use Rattle.ap_tools.specs.declared.histories.events.Event.{Event}
-use Rattle.ap_tools.specs.declared.histories.events.Event.TheVariants.{Push, Pop, Steal, Split, Done, Skip}
+use Rattle.ap_tools.specs.declared.events.Event.{Event}
+use Rattle.ap_tools.specs.declared.events.Event.TheVariants.{Push, Pop, Steal, Split, Done, Skip}
 use Rattle.ap_paths.specs.Entries.{TreeEntry, split, done, skip, stop}
 use Rattle.ap_paths.specs.History.{kids_of, seat_of}
 use Rattle.ap_paths.specs.Trees.{Choices, Outputs}

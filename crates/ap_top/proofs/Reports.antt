@@ -14,7 +14,7 @@ use Rattle.ap_bundle_commands.specs.ConvertReports.{convert_report}
 use Rattle.ap_bundle_commands.specs.CoverReports as cover
 use Rattle.ap_bundle_commands.specs.CoverReports.{cover_report, covers_report, proofs_report}
 use Rattle.ap_bundle_commands.specs.Uncovered.{first_uncovered}
-use Rattle.ap_words.specs.Generated.{generated}
+use Rattle.ap_text_commands.specs.Generated.{generated}
 use Rattle.ap_examine.specs.Reports.{exam_report, exams_from, first_other, other_or}
 use Rattle.ap_text_commands.specs.CountReports.{count_report}
 use Rattle.ap_text_commands.specs.WorkReports.{summary_report, work_depth}

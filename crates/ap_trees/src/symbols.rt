@@ -1,10 +1,9 @@
 // What the grammar sees of a token.
-ghost use Rattle.std.specs.Prelude.{◌≡◌, IfOk};
-ghost use Rattle.ap_lexer.specs.Tokens.{lexeme, lexemes};
-ghost use Rattle.ap_trees.specs.Symbols.{sym, syms, sym_of, syms_of, reserved_sym, mark_sym};
+ghost use Rattle.std.specs.Prelude.{◌≡◌};
+ghost use Rattle.ap_lexer.specs.Tokens.{lexeme};
+ghost use Rattle.ap_trees.specs.Symbols.{sym, sym_of, reserved_sym, mark_sym};
 
 use ap_lexer::{Token, TokenKind};
-use std::alloc::{AllocError, Global};
 
 /// A token without its place; a reserved word or a mark without its text.
 #[derive(Clone, Copy)]
@@ -106,15 +105,4 @@ pub fn symbol_of<'a>(token: &Token<'a>) -> Symbol<'a>
         TokenKind::Reserved => reserved_symbol(token.text),
         TokenKind::Sign => mark_symbol(token.text),
     }
-}
-
-/// The symbols of tokens, one for each.
-pub fn symbols_of<'a>(alloc: Global, tokens: &[Token<'a>]) -> Result<Vec<Symbol<'a>>, AllocError>
-    ensures { IfOk result (λ v. syms v.items ≡ syms_of (lexemes tokens.now)) }
-{
-    let mut symbols = Vec::with_capacity(alloc, tokens.len())?;
-    for token in tokens {
-        symbols.push(symbol_of(token))?;
-    }
-    Ok(symbols)
 }

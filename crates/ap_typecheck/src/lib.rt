@@ -4,7 +4,6 @@
 //! `specs/Declaring.antt` what each item adds.
 #![tactic(auto)]
 
-mod checking;
 mod declaring;
 mod error;
 mod items;
@@ -14,6 +13,5 @@ mod state;
 mod texts;
 mod typing;
 
-pub use checking::check;
 pub use error::TypeError;
 pub use texts::Typing;

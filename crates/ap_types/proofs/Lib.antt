@@ -19,13 +19,7 @@ pub mod JoinLemmas
 pub mod FillLemmas
 pub mod WalkLemmas
 pub mod OrderLemmas
-pub mod WritingLemmas
 pub mod SettledLemmas
-pub mod ChoiceLemmas
-pub mod DataLemmas
-pub mod WantLemmas
-pub mod StepLemmas
-pub mod PickLemmas
 pub mod LeastRuleLemmas
 pub mod LeastLemmas
 pub mod TermLemmas

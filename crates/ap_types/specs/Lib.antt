@@ -12,14 +12,8 @@ pub mod Joining
 pub mod Loading
 pub mod Needed
 pub mod Barred
-pub mod Writing
+pub mod Entries
 pub mod Walking
 pub mod Tables
-pub mod Picks
-pub mod Choices
-pub mod ChoiceRounds
-pub mod Wants
-pub mod Pickers
-pub mod StatementsOnPicks
 pub mod Closed
 pub mod StatementsOnInhabited

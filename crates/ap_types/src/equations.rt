@@ -14,11 +14,10 @@ use crate::joining::{join_all, shorten_all};
 use crate::loading::{Loaded, load_all, open_places};
 use crate::nodes::Node;
 use crate::parts::push_parts;
-use crate::solved::{Solved, are_names_or_holes, written_out};
+use crate::solved::{Solved, are_names_or_holes};
 use crate::walking::in_order;
-use ap_defs::lists::List;
 use ap_defs::memory::Memory;
-use ap_defs::terms::{Assignment, Shape};
+use ap_defs::terms::Shape;
 use std::alloc::Global;
 
 /// The greater of two numbers.
@@ -254,39 +253,4 @@ pub fn solved(
         return Err(TypesError::Clash);
     }
     Ok(solved)
-}
-
-/// The most general assignment of types to the holes of equations.
-///
-/// The holes are the numbers from 0 to the greatest that stands in `equations` or `names`; those in
-/// `names` are to be name types, of which `name_types` are declared. The assignment has a shape for each
-/// hole, in order; a hole that is left in it is undetermined. Where one name type is declared, a hole in
-/// `names` that nothing else fixes is that one. `Clash` comes exactly where no assignment solves the
-/// equations; `Memory` is want of memory. The left part of an abstraction is not forced to be a name
-/// type by itself. This is first-order unification after Robinson, over a table in which equal parts
-/// stand once, after Huet; the shapes that are given may be exponentially larger than the equations.
-pub fn solve(
-    alloc: Global,
-    equations: Vec<(Shape, Shape)>,
-    names: &[u64],
-    name_types: u32,
-) -> Result<Assignment, TypesError>
-    ensures in_order { IfOk result (λ a. length a.holes
-        ≡ hole_count (map equation_of equations.items) names.now) }
-    ensures most_general { IfOk result (λ a. (f : Filling) →
-        IsSolution (map equation_of equations.items) names.now name_types f
-        ↔ (IsShapeInstance (map shape_of a.holes) f × GivesNames name_types f names.now)) }
-    ensures constrained { IfOk result (λ a. AreNames name_types (map shape_of a.holes) names.now) }
-
-    // An assignment that is given has a solution, so a clash is never left out.
-    ensures solvable { IfOk result (λ a. (f : Filling)
-        × IsSolution (map equation_of equations.items) names.now name_types f) }
-    ensures clash { IfErr result (λ e. e ≡ TypesError.Clash →
-        IsUnsolvable (map equation_of equations.items) names.now name_types) }
-{
-    let solved = solved(alloc, equations, names, name_types)?;
-    let holes = written_out(alloc, &solved)?;
-    Ok(Assignment {
-        holes: List::of(holes),
-    })
 }

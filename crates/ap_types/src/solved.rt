@@ -1,17 +1,12 @@
 //! Solved equations, whose shapes are read off a table.
 
-ghost use Rattle.std.specs.Prelude.{◌≡◌, ℕ, ◌<◌, ◌≤◌, length, map, IsTrue, ◌↔◌, IfOk};
-ghost use Rattle.ap_defs.specs.Types.{shape_of};
+ghost use Rattle.std.specs.Prelude.{◌≤◌, IsTrue, ◌↔◌};
 ghost use Rattle.ap_types.specs.Equations.{names_bound};
-ghost use Rattle.ap_types.specs.Solving.{shape_at};
 ghost use Rattle.ap_types.specs.Assignments.{IsNameOrHole, AreNamesOrHoles};
 ghost use Rattle.ap_types.specs.Triangular.{shapes_of_nodes, value_of, IsSettledTable, assignment_of};
 
+use crate::entries::entry_at;
 use crate::nodes::Node;
-use crate::writing::{entry_at, value_in};
-use ap_defs::memory::Memory;
-use ap_defs::terms::Shape;
-use std::alloc::Global;
 
 /// The most general assignment of equations that have one, as a table in which equal parts can stand
 /// once: it takes no more room than the equations, where the shapes written out may be exponentially
@@ -21,29 +16,6 @@ pub struct Solved {
     pub nodes: Vec<Node>,
     pub order: Vec<usize>,
     pub holes: usize,
-}
-
-/// The shape of a hole in the assignment that a table stands for, written out. `Err` is want of memory.
-pub fn value_of(alloc: Global, solved: &Solved, hole: usize) -> Result<Shape, Memory>
-    requires { IsSettledTable (shapes_of_nodes solved.now.nodes.items) }
-    ensures { IfOk result (λ t. shape_of t ≡ shape_at (assignment_of solved.now) hole) }
-{
-    if hole >= solved.holes {
-        return Ok(Shape::Hole(hole as u64));
-    }
-    value_in(alloc, solved.nodes.as_slice(), hole)
-}
-
-/// The assignment that a table stands for, written out. `Err` is want of memory.
-pub fn written_out(alloc: Global, solved: &Solved) -> Result<Vec<Shape>, Memory>
-    requires { IsSettledTable (shapes_of_nodes solved.now.nodes.items) }
-    ensures { IfOk result (λ v. map shape_of v.items ≡ assignment_of solved.now) }
-{
-    let mut shapes = Vec::new(alloc);
-    for x in 0..solved.holes {
-        shapes.push(value_in(alloc, solved.nodes.as_slice(), x)?)?;
-    }
-    Ok(shapes)
 }
 
 /// Whether a place stands for a declared name type or an open place.

@@ -1,12 +1,13 @@
 -- The rules for parts of terms on which no swappings wait.
-use Rattle.std.proofs.Common.{◌≡◌, ◌<◌, ◌≤◌, ℕ, Bool, true, false, List, [], ◌∷◌, ◌++◌, length, map, refl, reverse, sym, subst, ap, ap₂, ◌∙◌, arith}
+use Rattle.std.proofs.Common.{◌≡◌, ◌<◌, ◌≤◌, ℕ, Bool, true, false, true≢false, List, [], ◌∷◌, ◌++◌, length, map, refl, reverse, sym, subst, ap, ap₂, ◌∙◌, arith}
 use Rattle.std.proofs.lemmas.Bool.Decides.{nat_tests}
 use Rattle.std.specs.Prelude.{Some, nat_lt, if◌then◌else◌}
 use Rattle.ap_defs.specs.Freshness.{var_eq}
 use Rattle.ap_defs.specs.Renaming.{IsBelow, rename_term, rename_var}
 use Rattle.ap_defs.specs.Substitution.{Binding, Equation, Problem, occurs, under, ◌≐◌}
-use Rattle.ap_defs.specs.Terms.{NominalTerm, susp, term_of}
+use Rattle.ap_defs.specs.Terms.{NominalTerm, abs, app, pair, susp, term_of}
 use Rattle.ap_defs.specs.Unification.{Rule, apply_rule, bind, clash, next, replace, rule, unless_occurs}
+use Rattle.ap_defs.specs.declared.terms.Name.{Name}
 use Rattle.ap_defs.specs.declared.terms.Swap.{Swap}
 use Rattle.ap_defs.specs.declared.terms.Term.{Term}
 use Rattle.ap_defs.specs.declared.terms.Term.TheVariants as code
@@ -17,20 +18,23 @@ use Rattle.ap_perm.specs.Lookups.{depth_of}
 use Rattle.ap_perm.specs.declared.closures.Closure.{Closure}
 use Rattle.ap_store.proofs.StoreLemmas.{store_ranked, store_sound}
 use Rattle.ap_store.specs.Heads.{HasForm, IsHeadUnbound}
-use Rattle.ap_store.specs.Marks.{HasNoVars}
 use Rattle.ap_store.specs.Views.{bindings_of, present, rank, raw_bound}
 use Rattle.ap_store.specs.declared.store.Store.{Store}
+use Rattle.ap_theory.proofs.BooleanLemmas.{or_false}
 use Rattle.ap_theory.proofs.TermLemmas.{act_term_none}
 use Rattle.ap_theory.specs.Variables.{IsUnbound}
 use Rattle.ap_rules.proofs.RunLemmas.{bind_in_under, bound_in, dropped}
 use Rattle.ap_rules.proofs.SuspensionLemmas.{form_under, head_var_stays, rule_binds_left, rule_binds_right}
 use Rattle.ap_rules.proofs.WorkLemmas.{pairs_below-append, put_last}
-use Rattle.ap_unify.specs.Parts.{IsFurther, IsHead}
+use Rattle.ap_unify.specs.Parts.{AreTurnMarksTrue, IsFurther, IsHead, IsMarkTrue, IsTurnBelow, PutsNothing}
 use Rattle.ap_equations.specs.Plain.{plain_term}
 use Rattle.ap_rules.specs.Runs.{equation_under, problem_under, stage_under}
 use Rattle.ap_rules.specs.Work.{ArePairsBelow, pair_equation}
 use Rattle.ap_unify.specs.declared.heads.Head.{Head}
 use Rattle.ap_unify.specs.declared.heads.Head.TheVariants as heads
+use Rattle.ap_unify.specs.declared.parts.Ahead.{Ahead}
+use Rattle.ap_unify.specs.declared.parts.Turn.{Turn}
+use Rattle.ap_unify.specs.declared.parts.Turn.TheVariants as turns
 use Rattle.ap_rules.specs.declared.pairs.ClosurePair.{ClosurePair}
 use Rattle.ap_equations.specs.declared.plain.Plain.{Plain}
 
@@ -56,8 +60,8 @@ found_further s x v t u e f b =
 pub head_free : (s : List Binding) (t : NominalTerm) (h : Head) (x : Var) → IsHead s t h → h ≡ heads.Free x → (t ≡ susp [] x) × IsUnbound s x
 head_free s t h x k e = subst (IsHead s t) e k
 
-pub head_form : (s : List Binding) (t : NominalTerm) (h : Head) (g : Bool) → IsHead s t h → h ≡ heads.Form g → HasForm t × (g ≡ true → HasNoVars (under s t))
-head_form s t h g k e = subst (IsHead s t) e k
+pub head_form : (s : List Binding) (t : NominalTerm) (h : Head) → IsHead s t h → h ≡ heads.Form → HasForm t
+head_form s t h k e = subst (IsHead s t) e k
 
 module _ (s : List Binding) where
   -- an unbound variable stays
@@ -115,6 +119,41 @@ clash_if_occurs x t e = ap (λ v. if v then clash else bind x t) e
 
 pub bind_if_absent : (x : Var) (t : NominalTerm) → occurs x t ≡ false → unless_occurs x t t ≡ bind x t
 bind_if_absent x t e = ap (λ v. if v then clash else bind x t) e
+
+-- a turn that puts nothing ahead
+pub nothing_below : (n : ℕ) (t : Turn) (f : Ahead) → PutsNothing t → IsTurnBelow n t f
+nothing_below n turns.Clash f h = tt
+nothing_below n turns.Done f h = tt
+nothing_below n turns.On f h = absurd h
+nothing_below n turns.Both f h = absurd h
+nothing_below n turns.Other f h = absurd h
+
+pub nothing_marked : (s : List Binding) (t : Turn) (f : Ahead) → PutsNothing t → AreTurnMarksTrue s t f
+nothing_marked s turns.Clash f h = tt
+nothing_marked s turns.Done f h = tt
+nothing_marked s turns.On f h = absurd h
+nothing_marked s turns.Both f h = absurd h
+nothing_marked s turns.Other f h = tt
+
+-- what is not known to be ground
+pub unmarked : (s : List Binding) (p : Plain) → p.is_ground ≡ false → IsMarkTrue s p
+unmarked s p e = λ g. absurd (true≢false (sym g ∙ e))
+
+-- a part of what is known to be ground is so too
+module _ (s : List Binding) (p q : Plain) (m : q.is_ground ≡ p.is_ground) (h : IsMarkTrue s p) where
+  pub first_mark : (t u : NominalTerm) → plain_term p ≡ pair t u → plain_term q ≡ t → IsMarkTrue s q
+  first_mark t u e f = λ g y.
+      ap (λ v. occurs y (under s v)) f ∙ (or_false (occurs y (under s t)) (occurs y (under s u)) (sym (ap (λ v. occurs y (under s v)) e) ∙ h (sym m ∙ g) y)).0
+
+  pub second_mark : (t u : NominalTerm) → plain_term p ≡ pair t u → plain_term q ≡ u → IsMarkTrue s q
+  second_mark t u e f = λ g y.
+      ap (λ v. occurs y (under s v)) f ∙ (or_false (occurs y (under s t)) (occurs y (under s u)) (sym (ap (λ v. occurs y (under s v)) e) ∙ h (sym m ∙ g) y)).1
+
+  pub app_mark : (n : ℕ) (t : NominalTerm) → plain_term p ≡ app n t → plain_term q ≡ t → IsMarkTrue s q
+  app_mark n t e f = λ g y. ap (λ v. occurs y (under s v)) f ∙ sym (ap (λ v. occurs y (under s v)) e) ∙ h (sym m ∙ g) y
+
+  pub abs_mark : (a : Name) (t : NominalTerm) → plain_term p ≡ abs a t → plain_term q ≡ t → IsMarkTrue s q
+  abs_mark a t e f = λ g y. ap (λ v. occurs y (under s v)) f ∙ sym (ap (λ v. occurs y (under s v)) e) ∙ h (sym m ∙ g) y
 
 -- an equation of two parts is put in front
 module _ (es fs : List ClosurePair) (e : ClosurePair) (t u : NominalTerm) (l : closure_term e.left ≡ t) (r : closure_term e.right ≡ u) (h : fs ≡ es ++ e ∷ []) where

@@ -7,8 +7,8 @@ use Rattle.ap_defs.specs.Freshness.{Conds, add_conds, both}
 use Rattle.ap_defs.specs.Substitution.{Binding, Problem, ◌#◌}
 use Rattle.ap_defs.specs.Unification.{reduce_all}
 use Rattle.ap_defs.specs.declared.terms.Cond.{Cond}
-use Rattle.ap_perm.proofs.SetLemmas.{added_both, both_left, both_right, collected_set}
-use Rattle.ap_perm.specs.Reduction.{added}
+use Rattle.ap_fresh.proofs.SetLemmas.{added_both, both_left, both_right, collected_set}
+use Rattle.ap_fresh.specs.Reduction.{added}
 use Rattle.ap_theory.proofs.ReductionLemmas.{reduce_all-append}
 use Rattle.ap_theory.specs.StatementsOnConditions.{collected}
 use Rattle.ap_unify.specs.Finishing.{reduced}

@@ -1,9 +1,12 @@
 -- How the step for an equation of two parts goes on, where another one may wait behind it.
 use Rattle.std.proofs.Common.{◌≡◌, ◌++◌, ◌∷◌, List, map, reverse, subst, ap, ap₂, ◌∙◌}
-use Rattle.std.specs.Prelude.{Option, Some}
-use Rattle.ap_defs.specs.Substitution.{Binding}
+use Rattle.std.specs.Prelude.{Option, Some, None}
+use Rattle.ap_defs.specs.Substitution.{Binding, under}
+use Rattle.ap_defs.specs.Terms.{NominalTerm}
 use Rattle.ap_defs.specs.Unification.{Progress, apply_rule, failed, next, step}
-use Rattle.ap_unify.specs.Parts.{IsRuleFor, parts_equation, rule_of, stage_of, stage_with, waiting_equations}
+use Rattle.ap_store.specs.Marks.{HasNoVars}
+use Rattle.ap_equations.specs.Plain.{plain_term}
+use Rattle.ap_unify.specs.Parts.{AreMarksTrue, AreWaitingMarksTrue, IsRuleFor, parts_equation, rule_of, stage_of, stage_with, waiting_equations}
 use Rattle.ap_rules.specs.Runs.{equation_under, problem_under, stage_under}
 use Rattle.ap_rules.specs.Work.{equations_left, pair_equation, problem_for, problems_met}
 use Rattle.ap_rules.specs.declared.pairs.Work.{Work}
@@ -11,6 +14,15 @@ use Rattle.ap_unify.specs.declared.parts.Ahead.{Ahead}
 use Rattle.ap_unify.specs.declared.parts.Turn.{Turn}
 use Rattle.ap_unify.specs.declared.parts.Turn.TheVariants as turns
 use Rattle.ap_equations.specs.declared.plain.PlainPair.{PlainPair}
+
+-- marks stay true where no variable comes
+module _ (s r : List Binding) (f : (t : NominalTerm) → HasNoVars (under s t) → HasNoVars (under r t)) where
+  marks_stay : (p : PlainPair) → AreMarksTrue s p → AreMarksTrue r p
+  marks_stay p h = (λ g. f (plain_term p.left) (h.0 g), λ g. f (plain_term p.right) (h.1 g))
+
+  pub waiting_stay : (o : Option PlainPair) → AreWaitingMarksTrue s o → AreWaitingMarksTrue r o
+  waiting_stay None h = tt
+  waiting_stay (Some p) h = marks_stay p h
 
 module _ (s r : List Binding) (pair : PlainPair) (o : Option PlainPair) (w v : Work) (e : v.equations.items ≡ w.equations.items) (f : v.problems.items ≡ w.problems.items) where
   abbrev stepped : Progress

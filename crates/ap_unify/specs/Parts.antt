@@ -13,6 +13,7 @@ use Rattle.ap_store.specs.Heads.{HasForm}
 use Rattle.ap_store.specs.Marks.{HasNoVars}
 use Rattle.ap_rules.specs.Work.{equations_left, problems_met, progress_if, work_stage}
 use Rattle.ap_equations.specs.Plain.{plain_term}
+use Rattle.ap_equations.specs.declared.plain.Plain.{Plain}
 use Rattle.ap_unify.specs.declared.heads.Head.{Head}
 use Rattle.ap_unify.specs.declared.heads.Head.TheVariants as heads
 use Rattle.ap_unify.specs.declared.heads.Look.{Look}
@@ -36,18 +37,21 @@ abbrev pub HasVariable : NominalTerm → Type 0
 HasVariable (susp p x) = Unit {0}
 HasVariable _ = ⊥
 
+-- what is known to be ground stands for a term without variables
+abbrev pub IsMarkTrue : List Binding → Plain → Type 0
+IsMarkTrue s p = p.is_ground ≡ true → HasNoVars (under s (plain_term p))
+
 abbrev pub IsHead : List Binding → NominalTerm → Head → Type 0
-IsHead s t (heads.Form g) = HasForm t × (g ≡ true → HasNoVars (under s t))
+IsHead s t heads.Form = HasForm t
 IsHead s t (heads.Free x) = (t ≡ susp [] x) × IsUnbound s x
 IsHead s t heads.Other = HasVariable t
 
--- what one look finds at the head of a term
-abbrev pub IsLook : Triple → (Var → ℕ) → NominalTerm → Look → Type 0
-IsLook a rank t looks.Form = HasForm t
-IsLook a rank t (looks.Free x) = (t ≡ susp [] x) × IsUnbound a.bindings x
-IsLook a rank t looks.Other = HasVariable t
-IsLook a rank t (looks.Further p) = IsFurther a rank t (plain_term p)
-IsLook a rank t (looks.Ground p) = IsFurther a rank t (plain_term p) × HasNoVars (under a.bindings (plain_term p))
+-- what one look finds at the head of a part
+abbrev pub IsLook : Triple → (Var → ℕ) → Plain → Look → Type 0
+IsLook a rank p looks.Form = HasForm (plain_term p)
+IsLook a rank p (looks.Free x) = (plain_term p ≡ susp [] x) × IsUnbound a.bindings x
+IsLook a rank p looks.Other = HasVariable (plain_term p)
+IsLook a rank p (looks.Further q) = IsFurther a rank (plain_term p) (plain_term q) × (IsMarkTrue a.bindings p → IsMarkTrue a.bindings q)
 
 abbrev pub parts_equation : PlainPair → Equation
 parts_equation p = plain_term p.left ≐ plain_term p.right
@@ -75,11 +79,25 @@ IsRuleFor turn f s r q = (es : List Equation) (ps : List Problem) → progress_o
 abbrev pub AreBelowBoth : ℕ → PlainPair → Type 0
 AreBelowBoth n p = IsBelow n (plain_term p.left) × IsBelow n (plain_term p.right)
 
+abbrev pub AreMarksTrue : List Binding → PlainPair → Type 0
+AreMarksTrue s p = IsMarkTrue s p.left × IsMarkTrue s p.right
+
+-- a turn puts nothing ahead
+abbrev pub PutsNothing : Turn → Type 0
+PutsNothing turns.Clash = Unit {0}
+PutsNothing turns.Done = Unit {0}
+PutsNothing _ = ⊥
+
 abbrev pub IsTurnBelow : ℕ → Turn → Ahead → Type 0
 IsTurnBelow n turns.On f = AreBelowBoth n f.next
 IsTurnBelow n turns.Both f = AreBelowBoth n f.next × AreBelowBoth n f.later
 IsTurnBelow n turns.Other f = AreBelowBoth n f.next
 IsTurnBelow n _ f = Unit {0}
+
+abbrev pub AreTurnMarksTrue : List Binding → Turn → Ahead → Type 0
+AreTurnMarksTrue s turns.On f = AreMarksTrue s f.next
+AreTurnMarksTrue s turns.Both f = AreMarksTrue s f.next × AreMarksTrue s f.later
+AreTurnMarksTrue s _ f = Unit {0}
 
 -- an equation that waits in front of those that are left, if there is one
 abbrev pub waiting_equations : Option PlainPair → List Equation
@@ -89,6 +107,10 @@ waiting_equations (Some p) = parts_equation p ∷ []
 abbrev pub IsWaitingBelow : ℕ → Option PlainPair → Type 0
 IsWaitingBelow n None = Unit {0}
 IsWaitingBelow n (Some p) = AreBelowBoth n p
+
+abbrev pub AreWaitingMarksTrue : List Binding → Option PlainPair → Type 0
+AreWaitingMarksTrue s None = Unit {0}
+AreWaitingMarksTrue s (Some p) = AreMarksTrue s p
 
 -- the stage with an equation of two parts in front, and then one that waits
 abbrev pub stage_of : List Binding → PlainPair → Option PlainPair → Work → Stage
@@ -101,6 +123,10 @@ progress_to ways.On s f w = next (stage_of s f.ahead.next f.waiting w)
 abbrev pub IsWayBelow : ℕ → Way → Front → Type 0
 IsWayBelow n (ways.End b) f = Unit {0}
 IsWayBelow n ways.On f = AreBelowBoth n f.ahead.next × IsWaitingBelow n f.waiting
+
+abbrev pub AreWayMarksTrue : List Binding → Way → Front → Type 0
+AreWayMarksTrue s (ways.End b) f = Unit {0}
+AreWayMarksTrue s ways.On f = AreMarksTrue s f.ahead.next × AreWaitingMarksTrue s f.waiting
 
 -- the stage goes on so by n more steps after the first one
 abbrev pub IsReached : ℕ → Stage → Progress → Type 0

@@ -3,7 +3,7 @@
 ghost use Rattle.std.specs.Prelude.{◌≡◌, ◌++◌, true, Some, IfOk, length, map};
 ghost use Rattle.ap_defs.specs.Freshness.{Conds};
 ghost use Rattle.ap_defs.specs.Unification.{problem_of, reduce_all};
-ghost use Rattle.ap_perm.specs.Reduction.{added};
+ghost use Rattle.ap_fresh.specs.Reduction.{added};
 ghost use Rattle.ap_store.specs.Triples.{AreOnUnbound, IsPrefixOf};
 ghost use Rattle.ap_store.specs.Views.{bindings_of, kinds, present, versions};
 ghost use Rattle.ap_theory.specs.StatementsOnConditions.{collected};

@@ -4,7 +4,7 @@ ghost use Rattle.std.specs.Prelude.{◌≡◌};
 ghost use Rattle.ap_defs.specs.Renaming.{IsBelow};
 ghost use Rattle.ap_defs.specs.Substitution.{under};
 ghost use Rattle.ap_store.specs.Views.{bindings_of, present, rank};
-ghost use Rattle.ap_unify.specs.Parts.{IsHead, IsLook};
+ghost use Rattle.ap_unify.specs.Parts.{IsHead, IsLook, IsMarkTrue};
 ghost use Rattle.ap_equations.specs.Plain.{plain_term};
 
 use ap_defs::terms::{Term, Var};
@@ -12,24 +12,22 @@ use ap_equations::plain::Plain;
 use ap_store::slots::Found;
 use ap_store::store::Store;
 
-/// No suspension, which may be known to be ground, an unbound variable on which no swappings wait, or another
-/// suspension.
+/// No suspension, an unbound variable on which no swappings wait, or another suspension.
 #[derive(Clone, Copy)]
 pub enum Head {
-    Form(bool),
+    Form,
     Free(Var),
     Other,
 }
 
-/// What one look at the head of a part finds: what stands there, or what is bound to the variable there, which may
-/// be known to be ground, where no swappings wait on either.
+/// What one look at the head of a part finds: what stands there, or what is bound to the variable there, where no
+/// swappings wait on either.
 #[derive(Clone, Copy)]
 pub enum Look<'a> {
     Form,
     Free(Var),
     Other,
     Further(Plain<'a>),
-    Ground(Plain<'a>),
 }
 
 /// A part, and what stands at its head.
@@ -39,9 +37,10 @@ pub struct PartWithHead<'a> {
     pub head: Head,
 }
 
-/// A look at the head of a part. It takes no memory.
+/// A look at the head of a part. What is bound to a variable there is known to be ground where it is marked so, or
+/// the part is known to be ground. It takes no memory.
 fn look_at<'a>(store: &Store<'a>, p: Plain<'a>) -> Look<'a>
-    ensures { IsLook (present store.now) (rank store.now) (plain_term p.entry) result }
+    ensures { IsLook (present store.now) (rank store.now) p.entry result }
 {
     match p.term {
         Term::Unit => Look::Form,
@@ -63,11 +62,13 @@ fn look_at<'a>(store: &Store<'a>, p: Plain<'a>) -> Look<'a>
                     base: b.base,
                     end: b.end,
                     term: b.term,
+                    is_ground: p.is_ground,
                 }),
-                Found::Ground(b) => Look::Ground(Plain {
+                Found::Ground(b) => Look::Further(Plain {
                     base: b.base,
                     end: b.end,
                     term: b.term,
+                    is_ground: true,
                 }),
             }
         }
@@ -81,15 +82,16 @@ pub fn headed<'a>(store: &Store<'a>, mut p: Plain<'a>) -> PartWithHead<'a>
         ≡ under (bindings_of store.now) (plain_term p.entry) }
     ensures below { IsBelow (present store.now).next (plain_term p.entry) →
         IsBelow (present store.now).next (plain_term result.part) }
+    ensures mark { IsMarkTrue (bindings_of store.now) p.entry →
+        IsMarkTrue (bindings_of store.now) result.part }
     ensures head { IsHead (bindings_of store.now) (plain_term result.part) result.head }
 {
-    let mut is_ground = false;
     'following: loop {
         match look_at(store, p) {
             Look::Form => {
                 return PartWithHead {
                     part: p,
-                    head: Head::Form(is_ground),
+                    head: Head::Form,
                 };
             }
             Look::Free(x) => {
@@ -105,10 +107,6 @@ pub fn headed<'a>(store: &Store<'a>, mut p: Plain<'a>) -> PartWithHead<'a>
                 };
             }
             Look::Further(further) => p = further,
-            Look::Ground(further) => {
-                p = further;
-                is_ground = true;
-            }
         }
     }
 }

@@ -12,7 +12,7 @@ ghost use Rattle.ap_store.specs.Marks.{HasNoVars};
 ghost use Rattle.ap_store.specs.Triples.{IsPrefixOf};
 ghost use Rattle.ap_store.specs.Views.{bindings_of, kinds, present, versions};
 ghost use Rattle.ap_theory.specs.Variables.{IsUnbound};
-ghost use Rattle.ap_unify.specs.Parts.{AreBelowBoth, IsHead, IsRuleFor, IsTurnBelow, rule_of};
+ghost use Rattle.ap_unify.specs.Parts.{AreBelowBoth, AreMarksTrue, AreTurnMarksTrue, IsHead, IsMarkTrue, IsRuleFor, IsTurnBelow, PutsNothing, rule_of};
 ghost use Rattle.ap_equations.specs.Plain.{plain_term};
 ghost use Rattle.ap_rules.specs.Work.{GoOn};
 ghost use Rattle.ap_store.specs.Heads.{HasForm};
@@ -68,8 +68,7 @@ fn bind_part<'a>(
         (under (bindings_of store.old) (susp [] w)) }
     ensures turn { IfOk result (λ turn. (f : Ahead) → IsRuleFor turn f (bindings_of store.old)
         (bindings_of store.new) (bind x (under (bindings_of store.old) (plain_term p.entry)))) }
-    ensures below { IfOk result (λ turn. (f : Ahead) →
-        IsTurnBelow (present store.old).next turn f) }
+    ensures ahead { IfOk result PutsNothing }
     ensures equations { work.new.equations.items ≡ work.old.equations.items }
     ensures problems { work.new.problems.items ≡ work.old.problems.items }
     ensures goes_on { OnOk result (GoOn (present store.old) work.old (present store.new) work.new) }
@@ -87,26 +86,23 @@ fn bind_unless_occurs<'a>(
     work: &mut Work<'a>,
     x: Var,
     p: Plain<'a>,
-    is_ground: bool,
 ) -> Result<Turn, Memory>
     requires made { x.num < (present store.old).next }
     requires unbound { IsUnbound (bindings_of store.old) x }
     requires part { IsBelow (present store.old).next (plain_term p) }
-    requires no_vars { is_ground ≡ true →
-        HasNoVars (under (bindings_of store.old) (plain_term p)) }
+    requires mark { IsMarkTrue (bindings_of store.old) p }
     ensures turn { IfOk result (λ turn. (f : Ahead) → IsRuleFor turn f (bindings_of store.old)
         (bindings_of store.new) (unless_occurs x
         (under (bindings_of store.old) (plain_term p.entry))
         (under (bindings_of store.old) (plain_term p.entry)))) }
-    ensures below { IfOk result (λ turn. (f : Ahead) →
-        IsTurnBelow (present store.old).next turn f) }
+    ensures ahead { IfOk result PutsNothing }
     ensures equations { work.new.equations.items ≡ work.old.equations.items }
     ensures problems { work.new.problems.items ≡ work.old.problems.items }
     ensures goes_on { OnOk result (GoOn (present store.old) work.old (present store.new) work.new) }
     ensures past { IsPrefixOf (versions store.old) (versions store.new) }
     ensures kinds { kinds store.new ≡ kinds store.old }
 {
-    if is_ground {
+    if p.is_ground {
         return bind_part(alloc, store, work, x, p, Occurrence::Ground);
     }
     let c = p.closure(alloc);
@@ -133,8 +129,7 @@ fn variables<'a>(
     requires below { AreBelowBoth (present store.old).next pair }
     ensures turn { IfOk result (λ turn. (f : Ahead) → IsRuleFor turn f (bindings_of store.old)
         (bindings_of store.new) (rule_of (bindings_of store.old) pair.entry)) }
-    ensures below { IfOk result (λ turn. (f : Ahead) →
-        IsTurnBelow (present store.old).next turn f) }
+    ensures ahead { IfOk result PutsNothing }
     ensures equations { work.new.equations.items ≡ work.old.equations.items }
     ensures problems { work.new.problems.items ≡ work.old.problems.items }
     ensures goes_on { OnOk result (GoOn (present store.old) work.old (present store.new) work.new) }
@@ -162,7 +157,7 @@ fn same_name(left: Plain<'_>, a: Name, right: Plain<'_>, b: Name) -> bool
     numbered(left.base, a) == numbered(right.base, b)
 }
 
-/// Terms that are numbered as two parts are.
+/// Parts of two parts, which are numbered as these are, and known to be ground where they are.
 fn terms_of<'a>(pair: PlainPair<'a>, left: &'a Term, right: &'a Term) -> PlainPair<'a>
     requires left { IsBelow pair.left.end (rename_term pair.left.base (term_of left.now)) }
     requires right { IsBelow pair.right.end (rename_term pair.right.base (term_of right.now)) }
@@ -170,6 +165,8 @@ fn terms_of<'a>(pair: PlainPair<'a>, left: &'a Term, right: &'a Term) -> PlainPa
         ≡ rename_term pair.entry.left.base (term_of left.entry.now) }
     ensures right { plain_term result.right
         ≡ rename_term pair.entry.right.base (term_of right.entry.now) }
+    ensures left_mark { result.left.is_ground ≡ pair.entry.left.is_ground }
+    ensures right_mark { result.right.is_ground ≡ pair.entry.right.is_ground }
 {
     PlainPair {
         left: pair.left.with_term(left),
@@ -185,6 +182,8 @@ fn forms(ahead: &mut Ahead<'_>) -> Turn
     ensures turn { (s : List Binding) →
         IsRuleFor result ahead.new s s (rule_of s ahead.old.next) }
     ensures below { (n : ℕ) → AreBelowBoth n ahead.old.next → IsTurnBelow n result ahead.new }
+    ensures marks { (s : List Binding) → AreMarksTrue s ahead.old.next →
+        AreTurnMarksTrue s result ahead.new }
 {
     let pair = ahead.next;
     let PlainPair { left, right } = pair;
@@ -245,9 +244,12 @@ fn by_heads<'a>(
     requires left { IsHead (bindings_of store.old) (plain_term ahead.old.next.left) left }
     requires right { IsHead (bindings_of store.old) (plain_term ahead.old.next.right) right }
     requires below { AreBelowBoth (present store.old).next ahead.old.next }
+    requires marks { AreMarksTrue (bindings_of store.old) ahead.old.next }
     ensures turn { IfOk result (λ turn. IsRuleFor turn ahead.new (bindings_of store.old)
         (bindings_of store.new) (rule_of (bindings_of store.old) ahead.old.next)) }
     ensures below { IfOk result (λ turn. IsTurnBelow (present store.old).next turn ahead.new) }
+    ensures marks { IfOk result (λ turn.
+        AreTurnMarksTrue (bindings_of store.new) turn ahead.new) }
     ensures equations { work.new.equations.items ≡ work.old.equations.items }
     ensures problems { work.new.problems.items ≡ work.old.problems.items }
     ensures goes_on { OnOk result (GoOn (present store.old) work.old (present store.new) work.new) }
@@ -255,13 +257,11 @@ fn by_heads<'a>(
     ensures kinds { kinds store.new ≡ kinds store.old }
 {
     match (left, right) {
-        (Head::Form(_), Head::Form(_)) => Ok(forms(ahead)),
-        (Head::Free(x), Head::Form(is_ground)) => {
-            bind_unless_occurs(alloc, store, work, x, ahead.next.right, is_ground)
+        (Head::Form, Head::Form) => Ok(forms(ahead)),
+        (Head::Free(x), Head::Form) => {
+            bind_unless_occurs(alloc, store, work, x, ahead.next.right)
         }
-        (Head::Form(is_ground), Head::Free(y)) => {
-            bind_unless_occurs(alloc, store, work, y, ahead.next.left, is_ground)
-        }
+        (Head::Form, Head::Free(y)) => bind_unless_occurs(alloc, store, work, y, ahead.next.left),
         (Head::Free(x), Head::Free(y)) => variables(alloc, store, work, x, y, ahead.next),
         _ => Ok(Turn::Other),
     }
@@ -276,9 +276,12 @@ pub fn step_parts<'a>(
     ahead: &mut Ahead<'a>,
 ) -> Result<Turn, Memory>
     requires below { AreBelowBoth (present store.old).next ahead.old.next }
+    requires marks { AreMarksTrue (bindings_of store.old) ahead.old.next }
     ensures turn { IfOk result (λ turn. IsRuleFor turn ahead.new (bindings_of store.old)
         (bindings_of store.new) (rule_of (bindings_of store.old) ahead.old.next)) }
     ensures below { IfOk result (λ turn. IsTurnBelow (present store.old).next turn ahead.new) }
+    ensures marks { IfOk result (λ turn.
+        AreTurnMarksTrue (bindings_of store.new) turn ahead.new) }
     ensures equations { work.new.equations.items ≡ work.old.equations.items }
     ensures problems { work.new.problems.items ≡ work.old.problems.items }
     ensures goes_on { OnOk result (GoOn (present store.old) work.old (present store.new) work.new) }

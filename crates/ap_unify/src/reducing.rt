@@ -6,15 +6,15 @@ ghost use Rattle.ap_defs.specs.Resolution.{fresh_for_each};
 ghost use Rattle.ap_defs.specs.Substitution.{under};
 ghost use Rattle.ap_defs.specs.Terms.{susp};
 ghost use Rattle.ap_defs.specs.Unification.{reduce_all};
-ghost use Rattle.ap_perm.specs.Reduction.{added};
+ghost use Rattle.ap_fresh.specs.Reduction.{added};
 ghost use Rattle.ap_store.specs.Views.{bindings_of, meaning_in};
 ghost use Rattle.ap_unify.specs.Finishing.{some_if};
 
 use ap_defs::memory::Memory;
 use ap_defs::terms::{Cond, Name, Var};
+use ap_fresh::error::FreshError;
+use ap_fresh::reduction::{add_reduced, add_reduced_var};
 use ap_perm::closures::Closure;
-use ap_perm::error::FreshError;
-use ap_perm::reduction::{add_reduced, add_reduced_var};
 use ap_store::store::Store;
 
 /// Puts the conditions under which a name is fresh for what a closure stands for behind others, unless it

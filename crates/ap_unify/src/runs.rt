@@ -1,12 +1,12 @@
 //! A run of unification, from the first equation to the last.
 
-ghost use Rattle.std.specs.Prelude.{◌≡◌, ◌<◌, ◌+◌, ◌∷◌, [], true, IfOk, OnOk, drop, length, vec_len};
+ghost use Rattle.std.specs.Prelude.{◌≡◌, ◌<◌, ◌+◌, ◌∷◌, [], false, true, IfOk, OnOk, drop, length, vec_len};
 ghost use Rattle.ap_defs.specs.Renaming.{AreBelow};
 ghost use Rattle.ap_defs.specs.Unification.{ending};
 ghost use Rattle.ap_store.specs.Triples.{IsPrefixOf};
 ghost use Rattle.ap_store.specs.Views.{bindings_of, kinds, present, versions};
 ghost use Rattle.ap_unify.specs.Lists.{renamed_terms_in};
-ghost use Rattle.ap_unify.specs.Parts.{AreBelowBoth, LeadsTo, Reaches, stage_with};
+ghost use Rattle.ap_unify.specs.Parts.{AreBelowBoth, AreMarksTrue, LeadsTo, Reaches, stage_with};
 ghost use Rattle.ap_equations.specs.Plain.{plain_term};
 ghost use Rattle.ap_rules.specs.Runs.{paired, stage_under};
 ghost use Rattle.ap_rules.specs.Work.{ArePairsBelow, GoOn, IsPairBelow, ending_if, equations_left, pair_equation, problems_met, progress_if, work_stage};
@@ -29,7 +29,8 @@ fn along<'a>(
     work: &mut Work<'a>,
     first: PlainPair<'a>,
 ) -> Result<bool, Memory>
-    requires { AreBelowBoth (present store.old).next first }
+    requires below { AreBelowBoth (present store.old).next first }
+    requires marks { AreMarksTrue (bindings_of store.old) first }
     ensures stage { IfOk result (λ goes_on. LeadsTo (stage_with (bindings_of store.old) first.entry
         work.old) (progress_if goes_on (work_stage (bindings_of store.new) work.new))) }
     ensures goes_on { OnOk result (GoOn (present store.old) work.old (present store.new) work.new) }
@@ -118,6 +119,7 @@ fn solve<'a>(
     pair: PlainPair<'a>,
 ) -> Result<bool, Memory>
     requires below { AreBelowBoth (present store.old).next pair }
+    requires marks { AreMarksTrue (bindings_of store.old) pair }
     requires pairs { ArePairsBelow (present store.old).next work.old.equations.items }
     ensures stage { IfOk result (λ solved. LeadsTo (stage_with (bindings_of store.old) pair.entry
         work.old) (progress_if solved (work_stage (bindings_of store.new) work.new))) }
@@ -132,17 +134,19 @@ fn solve<'a>(
     run(alloc, store, work)
 }
 
-/// The term at a place of a list.
+/// The term at a place of a list, which is not known to be ground.
 fn term_at<'a>(terms: Terms<'a>, i: usize) -> Plain<'a>
     requires place { i < length terms.terms.now }
     requires below { AreBelow terms.end (renamed_terms_in terms) }
-    ensures { drop i (renamed_terms_in terms.entry)
+    ensures term { drop i (renamed_terms_in terms.entry)
         ≡ plain_term result ∷ drop (i + 1) (renamed_terms_in terms.entry) }
+    ensures mark { result.is_ground ≡ false }
 {
     Plain {
         base: terms.base,
         end: terms.end,
         term: &terms.terms[i],
+        is_ground: false,
     }
 }
 

@@ -5,7 +5,7 @@ ghost use Rattle.ap_defs.specs.Substitution.{Binding};
 ghost use Rattle.ap_defs.specs.Unification.{next, step};
 ghost use Rattle.ap_store.specs.Triples.{IsPrefixOf};
 ghost use Rattle.ap_store.specs.Views.{bindings_of, kinds, present, versions};
-ghost use Rattle.ap_unify.specs.Parts.{AreBelowBoth, IsWaitingBelow, IsWayBelow, progress_to, stage_of, stage_with, waiting_equations};
+ghost use Rattle.ap_unify.specs.Parts.{AreBelowBoth, AreMarksTrue, AreWaitingMarksTrue, AreWayMarksTrue, IsWaitingBelow, IsWayBelow, progress_to, stage_of, stage_with, waiting_equations};
 ghost use Rattle.ap_rules.specs.Runs.{stage_under};
 ghost use Rattle.ap_rules.specs.Work.{ArePairsBelow, GoOn, equations_left, problems_met, progress_if, work_stage};
 ghost use Rattle.ap_rules.specs.declared.pairs.Work.{Work};
@@ -82,6 +82,8 @@ fn after_done(front: &mut Front<'_>) -> Way
         ≡ next (stage_under s (waiting_equations front.old.waiting ++ equations_left w)
         (problems_met w)) }
     ensures below { (n : ℕ) → IsWaitingBelow n front.old.waiting → IsWayBelow n result front.new }
+    ensures marks { (s : List Binding) → AreWaitingMarksTrue s front.old.waiting →
+        AreWayMarksTrue s result front.new }
 {
     match front.waiting {
         None => Way::End(true),
@@ -102,9 +104,12 @@ pub fn next_way<'a>(
 ) -> Result<Way, Memory>
     requires pair { AreBelowBoth (present store.old).next front.old.ahead.next }
     requires waiting { IsWaitingBelow (present store.old).next front.old.waiting }
+    requires marks { AreMarksTrue (bindings_of store.old) front.old.ahead.next }
+    requires waiting_marks { AreWaitingMarksTrue (bindings_of store.old) front.old.waiting }
     ensures stage { IfOk result (λ way. progress_to way (bindings_of store.new) front.new work.new
         ≡ step (stage_of (bindings_of store.old) front.old.ahead.next front.old.waiting work.old)) }
     ensures below { IfOk result (λ way. IsWayBelow (present store.old).next way front.new) }
+    ensures marks { IfOk result (λ way. AreWayMarksTrue (bindings_of store.new) way front.new) }
     ensures goes_on { OnOk result (GoOn (present store.old) work.old (present store.new) work.new) }
     ensures past { IsPrefixOf (versions store.old) (versions store.new) }
     ensures kinds { kinds store.new ≡ kinds store.old }

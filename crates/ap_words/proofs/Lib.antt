@@ -6,6 +6,3 @@ mod Rows
 mod Steps
 mod Taken
 mod Walking
-pub mod Examples
-pub mod LengthLemmas
-mod QueryLemmas

@@ -1,22 +1,21 @@
 //! The words of the command line: which are accepted, and what they ask for.
 //!
 //! [`read`] reads them by a table of commands and options. A further command is a variant of
-//! [`Asked`] and of [`CommandName`], its row in the table, and what its settings ask for. `texts` makes the
-//! texts that some ask for by a number.
+//! [`Asked`] and of [`CommandName`], its row in the table, and what its settings ask for.
 #![tactic(auto)]
 
 mod program;
 mod reading;
 mod settings;
+mod sizes;
 mod table;
-mod texts;
 
 use ap_bundle::version::Version;
 use ap_defs::limits::{Depth, Workers};
 use ap_paths::Limit;
 pub use reading::read;
+pub use sizes::{MOST_QUERIES, Size};
 pub use table::{CommandName, OptionName};
-pub use texts::{MOST_QUERIES, Size, program_of};
 
 /// What the words ask for.
 #[derive(Clone, Copy)]

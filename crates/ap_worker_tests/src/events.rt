@@ -2,7 +2,8 @@ use crate::pairs::Pairs;
 use crate::paths::are_both_ends;
 use ap_defs::lists::List;
 use ap_defs::memory::Memory;
-use ap_tools::{Core, Event, are_in_order, are_permitted, play, stays_whole};
+use ap_play::{Core, are_in_order, are_permitted, play, stays_whole};
+use ap_tools::Event;
 use std::alloc::Global;
 
 /// The first worker splits the empty path and shares one kid, and each of two ends one.

@@ -10,10 +10,11 @@ use ap_defs::lists::List;
 use ap_defs::memory::Memory;
 use ap_index::index::Index;
 use ap_paths::Limit;
+use ap_play::{Core, play};
 use ap_program::restricted::Restricted;
 use ap_replay::problem_tree::ProblemTree;
 use ap_text::program_of_text;
-use ap_tools::{Core, Event, play};
+use ap_tools::Event;
 use std::alloc::Global;
 
 /// The query has an answer at [1] and one at [2].

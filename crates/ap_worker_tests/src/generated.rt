@@ -1,4 +1,4 @@
-use ap_words::program_of;
+use ap_text_commands::program_of;
 
 /// The last line of a text, with its end.
 fn last_line(text: &[u8]) -> &[u8] {

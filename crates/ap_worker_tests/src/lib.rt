@@ -1,6 +1,6 @@
 //! Tests of streams, `ap_io`, of paths, books and workers, `ap_paths`, `ap_book`, `ap_tools` and
-//! `ap_steal`, of trees of queries, `ap_replay`, of texts that are made from a number, `ap_words`, and of the top call with
-//! two workers, `ap_top`.
+//! `ap_steal`, of trees of queries, `ap_replay`, of texts that are made from a number, `ap_text_commands`, and of
+//! the top call with two workers, `ap_top`.
 #![tactic(auto)]
 
 #[cfg(test)]

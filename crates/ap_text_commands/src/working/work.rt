@@ -7,6 +7,7 @@ ghost use Rattle.ap_report.specs.declared.report.Report.{Report};
 ghost use Rattle.ap_report.specs.TextReport.{IsTextReport};
 ghost use Rattle.ap_text_commands.specs.WorkReports.{IsWorkReport, summary, summary_report, work_depth};
 
+use crate::texts::program_of;
 use crate::working::program::{program_totals, query_count};
 use crate::working::totals::Totals;
 use ap_defs::limits::Workers;
@@ -17,7 +18,7 @@ use ap_io::Gate;
 use ap_program::restricted::Restricted;
 use ap_report::{Report, Status, fault_report};
 use ap_text::{TextError, program_of_text};
-use ap_words::{Size, program_of};
+use ap_words::Size;
 use std::alloc::Global;
 use std::sync::Wait;
 use std::thread::Threads;

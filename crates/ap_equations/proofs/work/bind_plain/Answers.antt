@@ -46,4 +46,4 @@ returns-clause-goes_on c =
     let w = c.args.work.now in
     let k : has_on c.args.x a.conditions ≡ false = sym c.has_conditions.ensures ∙ c.if-has_conditions.false in
     let e : w.taken.items ≡ w.taken.items ++ filter (is_on c.args.x) a.conditions = sym (append-nil w.taken.items) ∙ ap (λ cs. w.taken.items ++ cs) (sym (on_none c.args.x a.conditions k)) in
-    on_ok c.bind_free.result (λ h. go_bound a (present c.bind_free.new.self) w w c.args.x (under a.bindings (plain_term c.args.p)) h refl e) c.bind_free.ensures.present
+    on_ok c.bind_free.result (λ h. go_bound a (present c.bind_free.new.self) w w c.args.x (under a.bindings (plain_term c.args.p)) c.requires.unbound h refl e) c.bind_free.ensures.present

@@ -22,7 +22,7 @@ returns-clause-goes_on c =
     let w = c.args.work.now in
     let v : Work = record { equations = w.equations; problems = w.problems; taken = c.append.new.self } in
     let k : c.append.new.self.items ≡ w.taken.items ++ filter (is_on c.args.x) a.conditions = search rules in
-    go_bound a (present c.bind.new.self) w v c.args.x (under a.bindings (closure_term c.args.c)) c.in_ok-taken.ensures.present refl k
+    go_bound a (present c.bind.new.self) w v c.args.x (under a.bindings (closure_term c.args.c)) c.requires.unbound c.in_ok-taken.ensures.present refl k
 
 pub returns-then-is_empty-clause-stage : goal.returns-then-is_empty-clause-stage
 returns-then-is_empty-clause-stage c =
@@ -37,5 +37,5 @@ returns-then-is_empty-clause-goes_on c =
     let w = c.args.work.now in
     let n : length c.in_ok-taken.taken.items ≡ 0 = search rules in
     let e : filter (is_on c.args.x) a.conditions ≡ [] = sym c.in_ok-taken.ensures.taken ∙ nil_from_length c.in_ok-taken.taken.items n in
-    go_bound a (present c.bind.new.self) w w c.args.x (under a.bindings (closure_term c.args.c)) c.in_ok-taken.ensures.present refl
+    go_bound a (present c.bind.new.self) w w c.args.x (under a.bindings (closure_term c.args.c)) c.requires.unbound c.in_ok-taken.ensures.present refl
     (sym (append-nil w.taken.items) ∙ ap (λ cs. w.taken.items ++ cs) (sym e))

@@ -1,5 +1,5 @@
 use Rattle.std.proofs.Common.{◌≡◌, ◌<◌, ◌+◌, ◌-◌, length, sym, ap, ◌∙◌, arith}
-use Rattle.ap_perm.specs.Reduction.{added}
+use Rattle.ap_fresh.specs.Reduction.{added}
 use Rattle.ap_store.specs.Views.{bindings_of}
 use Rattle.ap_unify.proofs.ReducingLemmas.{reduced_more, reduced_none}
 use Rattle.ap_unify.proofs.finish.reduce_each.Goals as goal

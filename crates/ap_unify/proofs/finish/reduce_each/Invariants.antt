@@ -1,7 +1,7 @@
 use Rattle.std.proofs.Common.{◌≡◌, drop, map}
 use Rattle.std.specs.Prelude.{Some}
 use Rattle.ap_defs.specs.Unification.{reduce_all}
-use Rattle.ap_perm.specs.Reduction.{added}
+use Rattle.ap_fresh.specs.Reduction.{added}
 use Rattle.ap_store.specs.Views.{bindings_of}
 use Rattle.ap_rules.specs.Work.{problem_for}
 use Rattle.ap_unify.proofs.finish.reduce_each.Given as goal

@@ -1,6 +1,6 @@
 use Rattle.std.proofs.Common.{map, Some, sym, ap, ◌∙◌}
 use Rattle.ap_defs.specs.Unification.{problem_of, reduce_all}
-use Rattle.ap_perm.specs.Reduction.{added}
+use Rattle.ap_fresh.specs.Reduction.{added}
 use Rattle.ap_store.specs.Views.{bindings_of}
 use Rattle.ap_unify.proofs.ReducingLemmas.{all_collected, conditions_refuted, problems_refuted}
 use Rattle.ap_unify.proofs.finish.reduce_met.Goals as goal

@@ -1,8 +1,8 @@
 use Rattle.std.proofs.Common.{◌≡◌, Some, subst, sym, ap, ◌∙◌}
 use Rattle.ap_defs.specs.Resolution.{fresh_for_each}
 use Rattle.ap_defs.specs.Unification.{reduce_all}
-use Rattle.ap_perm.proofs.SetLemmas.{collected_set}
-use Rattle.ap_perm.specs.Reduction.{added}
+use Rattle.ap_fresh.proofs.SetLemmas.{collected_set}
+use Rattle.ap_fresh.specs.Reduction.{added}
 use Rattle.ap_store.specs.Triples.{AreOnUnbound, with_conditions}
 use Rattle.ap_store.specs.Views.{present}
 use Rattle.ap_theory.specs.StatementsOnConditions.{collected}

@@ -46,7 +46,8 @@ returns-in-Plain c =
     let v = bare_term c.in-Plain.b in
     let n : length c.in-Susp.q ≡ 0 = search rules in
     let k : raw_bound s x ≡ Some v = subst (IsWhatIsFound (raw_bound s x)) c.in-Plain.is c.found.ensures.found in
-    found_further s x v (plain_term p) v (plain_susp p c.in-Susp.q c.in-Susp.x c.in-Susp.is n) refl k
+    let f = found_further s x v (plain_term p) v (plain_susp p c.in-Susp.q c.in-Susp.x c.in-Susp.is n) refl k in
+    (f, λ h e y. ap (occurs y) f.0 ∙ h e y)
 
 pub returns-in-Ground : goal.returns-in-Ground
 returns-in-Ground c =
@@ -58,4 +59,4 @@ returns-in-Ground c =
     let k : raw_bound s x ≡ Some v = subst (IsWhatIsFound (raw_bound s x)) c.in-Ground.is c.found.ensures.found in
     let f = found_further s x v (plain_term p) v (plain_susp p c.in-Susp.q c.in-Susp.x c.in-Susp.is n) refl k in
     let g = found_further s x v (susp [] x) v refl refl k in
-    (f, λ y. ap (occurs y) g.0 ∙ c.found.ensures.no_vars (ap is_ground_found c.in-Ground.is) y)
+    (f, λ h e y. ap (occurs y) g.0 ∙ c.found.ensures.no_vars (ap is_ground_found c.in-Ground.is) y)

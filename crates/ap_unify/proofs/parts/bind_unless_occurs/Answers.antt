@@ -14,13 +14,13 @@ use Rattle.ap_equations.specs.Plain.{plain_term}
 use Rattle.ap_rules.specs.Runs.{equation_under, problem_under}
 
 pub bind_part-requires-clause-absent : goal.bind_part-requires-clause-absent
-bind_part-requires-clause-absent c = c.requires.no_vars c.if-is_ground.true c.args.x
+bind_part-requires-clause-absent c = c.requires.mark c.if-p.true c.args.x
 
-pub returns-then-is_ground-clause-turn : goal.returns-then-is_ground-clause-turn
-returns-then-is_ground-clause-turn c =
+pub returns-then-p-clause-turn : goal.returns-then-p-clause-turn
+returns-then-p-clause-turn c =
     let s = bindings_of c.args.store.now in
     let t = under s (plain_term c.args.p) in
-    let e = c.requires.no_vars c.if-is_ground.true c.args.x in
+    let e = c.requires.mark c.if-p.true c.args.x in
     if_ok c.bind_part.result (λ turn h. λ f. subst (IsRuleFor turn f s (bindings_of c.bind_part.new.store)) (sym (bind_if_absent c.args.x t e)) (h f)) c.bind_part.ensures.turn
 
 pub returns-then-occurs-clause-turn : goal.returns-then-occurs-clause-turn
@@ -44,7 +44,7 @@ bind_part-requires-2-clause-like c =
     λ w h. subst (λ (u : NominalTerm). HaveSameVars (under s u) (under s (susp [] w))) c.closure-c.ensures (c.in_ok-found.ensures.like w h)
 
 pub bind_part-requires-clause-no_vars : goal.bind_part-requires-clause-no_vars
-bind_part-requires-clause-no_vars c = λ h. c.requires.no_vars c.if-is_ground.true
+bind_part-requires-clause-no_vars c = λ h. c.requires.mark c.if-p.true
 
 pub bind_part-requires-clause-like : goal.bind_part-requires-clause-like
 bind_part-requires-clause-like c = λ w h. absurd (ground_not_like w h)

@@ -5,6 +5,9 @@ use Rattle.ap_rules.proofs.WorkLemmas.{if_ok}
 use Rattle.ap_unify.proofs.parts.step_parts.Goals as goal
 use Rattle.ap_unify.specs.Parts.{IsRuleFor}
 
+pub by_heads-requires-clause-marks : goal.by_heads-requires-clause-marks
+by_heads-requires-clause-marks c = (c.headed-left.ensures.mark c.requires.marks.0, c.headed-right.ensures.mark c.requires.marks.1)
+
 pub returns-clause-turn : goal.returns-clause-turn
 returns-clause-turn c =
     if_ok c.by_heads.result

@@ -2,7 +2,7 @@ use Rattle.std.proofs.Common.{drop, ◌≡◌}
 use Rattle.std.specs.Prelude.{Some}
 use Rattle.ap_defs.specs.Resolution.{fresh_for_each}
 use Rattle.ap_defs.specs.Unification.{reduce_all}
-use Rattle.ap_perm.specs.Reduction.{added}
+use Rattle.ap_fresh.specs.Reduction.{added}
 use Rattle.ap_store.specs.Views.{bindings_of}
 use Rattle.ap_unify.proofs.reducing.reduce_vars.Given as goal
 

@@ -1,6 +1,6 @@
 use Rattle.std.proofs.Common.{[], ◌∷◌, ◌∙◌, List, ap, map, refl, reverse, subst, sym}
 use Rattle.ap_defs.specs.Substitution.{Equation}
-use Rattle.ap_perm.proofs.StepLemmas.{on_ok}
+use Rattle.ap_fresh.proofs.StepLemmas.{on_ok}
 use Rattle.ap_store.specs.Views.{bindings_of, present}
 use Rattle.ap_rules.proofs.WorkLemmas.{go_on_on, go_same, if_ok, pairs_below_front, pairs_below_last, put_last}
 use Rattle.ap_unify.proofs.runs.advance.Goals as goal

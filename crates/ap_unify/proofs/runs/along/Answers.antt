@@ -5,7 +5,7 @@ use Rattle.ap_theory.proofs.TerminationLemmas.{steps_left, steps_left_next}
 use Rattle.ap_unify.proofs.ReachLemmas.{leads_now, leads_on}
 use Rattle.ap_rules.proofs.WorkLemmas.{go_on_on, goes_on_on}
 use Rattle.ap_unify.proofs.runs.along.Goals as goal
-use Rattle.ap_unify.specs.Parts.{AreBelowBoth, IsWaitingBelow, IsWayBelow, progress_to, stage_of}
+use Rattle.ap_unify.specs.Parts.{AreBelowBoth, AreWayMarksTrue, IsWaitingBelow, IsWayBelow, progress_to, stage_of}
 use Rattle.ap_rules.specs.Work.{progress_if, work_stage}
 use Rattle.ap_unify.specs.declared.ways.Way.TheVariants as ways
 
@@ -42,11 +42,14 @@ going-preserved c =
     let after = stage_of s f.ahead.next f.waiting w in
     let e : next after ≡ step before = subst (λ x. progress_to x s f w ≡ step before) c.in-On.is c.in_ok-goes_on.ensures.stage in
     let n = c.in_ok-goes_on.ensures.goes_on.next in
+    let marks : AreWayMarksTrue s ways.On f = subst (λ x. AreWayMarksTrue s x f) c.in-On.is c.in_ok-goes_on.ensures.marks in
     let below : IsWayBelow b.next ways.On f = subst (λ x. IsWayBelow b.next x f) c.in-On.is c.in_ok-goes_on.ensures.below in
     record {
       leads = λ p h. c.going.invariant.leads p (leads_on before after p (sym e) h);
       pair_below = subst (λ m. AreBelowBoth m f.ahead.next) (sym n) below.0;
       waiting_below = subst (λ m. IsWaitingBelow m f.waiting) (sym n) below.1;
+      pair_marks = marks.0;
+      waiting_marks = marks.1;
       goes_on = go_on_on a b d c.args.work.now c.going.work w c.going.invariant.goes_on c.in_ok-goes_on.ensures.goes_on;
       past = goes_on_on (versions c.args.store.now) (versions c.going.store) (versions c.next_way.new.store) c.going.invariant.past c.next_way.ensures.past;
       kinds = c.next_way.ensures.kinds ∙ c.going.invariant.kinds;

@@ -5,6 +5,7 @@ use Rattle.ap_defs.specs.Unification.{Stage, ending, failed, next, solved}
 use Rattle.ap_store.specs.Views.{bindings_of, present, versions}
 use Rattle.ap_theory.proofs.TerminationLemmas.{ending_done}
 use Rattle.ap_unify.proofs.BehindLemmas.{front_ending, front_failed}
+use Rattle.ap_unify.proofs.PartLemmas.{unmarked}
 use Rattle.ap_unify.proofs.SolutionLemmas.{last_of_work}
 use Rattle.ap_unify.proofs.WellLemmas.{well}
 use Rattle.ap_rules.proofs.WorkLemmas.{below_first, go_on_on, goes_on_on, terms_length}
@@ -24,9 +25,14 @@ solve-requires-clause-below c =
     let n = (present c.args.store.now).next in
     let pair : PlainPair = record { left = c.term_at-here.result; right = c.term_at-there.result } in
     subst (λ m. AreBelowBoth m pair) (sym c.places.invariant.goes_on.next) (
-      below_first n c.places.i ts (plain_term c.term_at-here.result) (drop (c.places.i + 1) ts) c.requires.left_made c.term_at-here.ensures,
-      below_first n c.places.i us (plain_term c.term_at-there.result) (drop (c.places.i + 1) us) c.requires.right_made c.term_at-there.ensures,
+      below_first n c.places.i ts (plain_term c.term_at-here.result) (drop (c.places.i + 1) ts) c.requires.left_made c.term_at-here.ensures.term,
+      below_first n c.places.i us (plain_term c.term_at-there.result) (drop (c.places.i + 1) us) c.requires.right_made c.term_at-there.ensures.term,
     )
+
+pub solve-requires-clause-marks : goal.solve-requires-clause-marks
+solve-requires-clause-marks c =
+    let s = bindings_of c.places.store in
+    (unmarked s c.term_at-here.result c.term_at-here.ensures.mark, unmarked s c.term_at-there.result c.term_at-there.ensures.mark)
 
 pub solve-requires-clause-pairs : goal.solve-requires-clause-pairs
 solve-requires-clause-pairs c = subst (ArePairsBelow (present c.places.store).next) (sym c.places.invariant.none) tt
@@ -47,7 +53,7 @@ returns-then-not-branch-clause-ending c =
     let k : LeadsTo (stage_under s ((t ≐ u) ∷ []) ps) failed =
     subst (λ (es : List ClosurePair). LeadsTo (stage_under s ((t ≐ u) ∷ map pair_equation (reverse es)) ps) failed) c.places.invariant.none h in
     c.places.invariant.ending
-    ∙ ap₂ (λ xs ys. ending (stage_under s (paired xs ys) ps)) c.term_at-here.ensures c.term_at-there.ensures
+    ∙ ap₂ (λ xs ys. ending (stage_under s (paired xs ys) ps)) c.term_at-here.ensures.term c.term_at-there.ensures.term
     ∙ front_failed (paired (drop (c.places.i + 1) ts) (drop (c.places.i + 1) us)) s (well c.places.store).idempotent t u ps k
 
 pub places-preserved : goal.places-preserved
@@ -73,7 +79,7 @@ places-preserved c =
     subst (λ (x : Stage). LeadsTo (stage_under b.bindings ((t ≐ u) ∷ []) ps) (next x)) (last_of_work d.bindings v none) k in
     record {
       ending = c.places.invariant.ending
-          ∙ ap₂ (λ xs ys. ending (stage_under b.bindings (paired xs ys) ps)) c.term_at-here.ensures c.term_at-there.ensures
+          ∙ ap₂ (λ xs ys. ending (stage_under b.bindings (paired xs ys) ps)) c.term_at-here.ensures.term c.term_at-there.ensures.term
           ∙ front_ending (paired (drop (c.places.i + 1) ts) (drop (c.places.i + 1) us)) b.bindings (well c.places.store).idempotent t u ps d.bindings (problems_met v) e;
       none = none;
       goes_on = go_on_on a b d c.args.work.now w v c.places.invariant.goes_on c.in_ok-solve.ensures.goes_on;

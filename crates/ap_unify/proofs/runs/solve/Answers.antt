@@ -1,6 +1,6 @@
 use Rattle.std.proofs.Common.{subst, sym}
 use Rattle.ap_defs.specs.Unification.{next}
-use Rattle.ap_perm.proofs.StepLemmas.{on_ok}
+use Rattle.ap_fresh.proofs.StepLemmas.{on_ok}
 use Rattle.ap_store.specs.Views.{bindings_of, present}
 use Rattle.ap_unify.proofs.ReachLemmas.{then_reaches}
 use Rattle.ap_rules.proofs.WorkLemmas.{go_on_on, if_ok}

@@ -6,8 +6,8 @@ use Rattle.ap_rules.proofs.WorkLemmas.{term_at_place, term_below_at, terms_lengt
 use Rattle.ap_unify.proofs.runs.term_at.Goals as goal
 use Rattle.ap_unify.specs.Lists.{renamed_terms_in}
 
-pub returns : goal.returns
-returns c =
+pub returns-clause-term : goal.returns-clause-term
+returns-clause-term c =
     let ts = c.args.terms in
     let i = c.args.i in
     let d = c.index-terms-i.result in

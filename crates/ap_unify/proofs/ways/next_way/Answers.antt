@@ -1,9 +1,9 @@
 use Rattle.std.proofs.Common.{subst, sym, ◌∙◌}
 use Rattle.ap_store.specs.Views.{bindings_of, present}
-use Rattle.ap_unify.proofs.WayLemmas.{both_way, clash_way, done_way, on_way, other_way}
+use Rattle.ap_unify.proofs.WayLemmas.{both_way, clash_way, done_way, on_way, other_way, waiting_stay}
 use Rattle.ap_rules.proofs.WorkLemmas.{go_on_on, go_same}
 use Rattle.ap_unify.proofs.ways.next_way.Goals as goal
-use Rattle.ap_unify.specs.Parts.{AreBelowBoth, IsTurnBelow, IsWaitingBelow}
+use Rattle.ap_unify.specs.Parts.{AreBelowBoth, AreTurnMarksTrue, IsTurnBelow, IsWaitingBelow}
 
 pub returns-in-Clash-clause-stage : goal.returns-in-Clash-clause-stage
 returns-in-Clash-clause-stage c =
@@ -23,6 +23,11 @@ returns-in-Done-clause-stage c =
 pub returns-in-Done-clause-below : goal.returns-in-Done-clause-below
 returns-in-Done-clause-below c = c.after_done.ensures.below (present c.args.store.now).next c.requires.waiting
 
+pub returns-in-Done-clause-marks : goal.returns-in-Done-clause-marks
+returns-in-Done-clause-marks c =
+    let r = bindings_of c.step_parts.new.store in
+    c.after_done.ensures.marks r (waiting_stay (bindings_of c.args.store.now) r c.in_ok-step_parts.ensures.goes_on.no_vars c.args.front.now.waiting c.requires.waiting_marks)
+
 pub returns-in-On-clause-stage : goal.returns-in-On-clause-stage
 returns-in-On-clause-stage c =
     let r = bindings_of c.step_parts.new.store in
@@ -34,6 +39,18 @@ pub returns-in-On-clause-below : goal.returns-in-On-clause-below
 returns-in-On-clause-below c =
     let n = (present c.args.store.now).next in
     (subst (λ t. IsTurnBelow n t c.step_parts.new.ahead) c.in-On.is c.in_ok-step_parts.ensures.below, c.requires.waiting)
+
+pub returns-in-On-clause-marks : goal.returns-in-On-clause-marks
+returns-in-On-clause-marks c =
+    let r = bindings_of c.step_parts.new.store in (
+      subst (λ t. AreTurnMarksTrue r t c.step_parts.new.ahead) c.in-On.is c.in_ok-step_parts.ensures.marks,
+      waiting_stay (bindings_of c.args.store.now) r c.in_ok-step_parts.ensures.goes_on.no_vars c.args.front.now.waiting c.requires.waiting_marks,
+    )
+
+pub returns-in_ok-put_waiting-in-Both-clause-marks : goal.returns-in_ok-put_waiting-in-Both-clause-marks
+returns-in_ok-put_waiting-in-Both-clause-marks c =
+    let r = bindings_of c.step_parts.new.store in
+    subst (λ t. AreTurnMarksTrue r t c.step_parts.new.ahead) c.in-Both.is c.in_ok-step_parts.ensures.marks
 
 pub returns-in_ok-put_waiting-in-Both-clause-below : goal.returns-in_ok-put_waiting-in-Both-clause-below
 returns-in_ok-put_waiting-in-Both-clause-below c =

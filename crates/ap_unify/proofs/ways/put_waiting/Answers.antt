@@ -1,4 +1,4 @@
-use Rattle.ap_perm.proofs.StepLemmas.{on_ok}
+use Rattle.ap_fresh.proofs.StepLemmas.{on_ok}
 use Rattle.ap_unify.proofs.PartLemmas.{put_below, put_front}
 use Rattle.ap_unify.proofs.ways.put_waiting.Goals as goal
 use Rattle.ap_equations.specs.Plain.{plain_term}

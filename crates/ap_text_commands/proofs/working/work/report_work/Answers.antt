@@ -1,8 +1,8 @@
 use Rattle.std.proofs.Common.{◌≡◌, ◌≤◌, rules, sym, ap, ◌∙◌, length, subst}
 use Rattle.std.proofs.lemmas.Result.{IfOk-weaker}
 use Rattle.ap_defs.specs.Limits.{size_limit}
-use Rattle.ap_words.specs.Generated.{generated}
-use Rattle.ap_words.proofs.LengthLemmas.{generated_length}
+use Rattle.ap_text_commands.specs.Generated.{generated}
+use Rattle.ap_text_commands.proofs.LengthLemmas.{generated_length}
 use Rattle.ap_report.proofs.Texts.{report_one}
 use Rattle.ap_report.specs.TextReport.{IsTextReport}
 use Rattle.ap_text_commands.specs.WorkReports.{summary_report, work_depth}

@@ -1,0 +1,4 @@
+pub mod SetLemmas
+pub mod StepLemmas
+pub mod RenamedLemmas
+pub mod PendingLemmas

@@ -1,6 +1,0 @@
-use Rattle.std.proofs.Common.{length}
-use Rattle.ap_part_cases.proofs.measures.steal.+gather.Given as goal
-
--- the levels that are left
-abbrev pub decreases-gather : goal.decreases-gather
-decreases-gather l = length l.levels.now

@@ -1,5 +1,0 @@
-use Rattle.ap_perm.proofs.FlatLemmas.{IsUnseen}
-use Rattle.ap_perm.proofs.flat.origin_of.Given as goal
-
-abbrev pub invariant-looking : goal.invariant-looking
-invariant-looking l = IsUnseen l.moved l.a l.i

@@ -1,0 +1,3 @@
+pub mod Wholes
+pub mod Stepping
+pub mod Covering

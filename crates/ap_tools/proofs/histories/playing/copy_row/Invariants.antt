@@ -1,5 +1,0 @@
-use Rattle.std.proofs.Common.{◌≡◌, ◌++◌, take}
-use Rattle.ap_tools.proofs.histories.playing.copy_row.Given as goal
-
-abbrev pub invariant-loop-path : goal.invariant-loop-path
-invariant-loop-path l = l.all.items ≡ l.initial.all.items ++ take l.path-index l.row

@@ -1,7 +1,0 @@
-use Rattle.std.proofs.Common.{◌≡◌, []}
-use Rattle.ap_tools.specs.States.{over, start_state}
-use Rattle.ap_tools.specs.Stages.{state_of}
-use Rattle.ap_tools.proofs.histories.playing.gather.Given as goal
-
-abbrev pub invariant-loop-i : goal.invariant-loop-i
-invariant-loop-i l = state_of l.team.items (over [] []) ≡ start_state l._i

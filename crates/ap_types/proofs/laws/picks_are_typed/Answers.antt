@@ -1,5 +1,0 @@
-use Rattle.ap_types.proofs.PickLemmas.{picks_typed}
-use Rattle.ap_types.proofs.laws.picks_are_typed.Goals as goal
-
-pub returns : goal.returns
-returns c = picks_typed

@@ -1,0 +1,5 @@
+pub mod FlatLemmas
+pub mod UnionLemmas
+pub mod PermLemmas
+pub mod DifferingLemmas
+pub mod WritingLemmas

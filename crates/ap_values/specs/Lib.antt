@@ -1,0 +1,4 @@
+pub mod Flat
+pub mod FlatProps
+pub mod Differing
+pub mod Writing
