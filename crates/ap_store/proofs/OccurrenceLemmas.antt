@@ -1,8 +1,13 @@
 -- What is found of a variable in a term tells what was not found.
-use Rattle.std.proofs.Common.{◌≡◌, Bool, true, false, true≢false, refl, sym, ap}
+use Rattle.std.proofs.Common.{◌≡◌, ℕ, List, Bool, true, false, true≢false, refl, sym, ap}
 use Rattle.std.specs.Prelude.{if◌then◌else◌}
+use Rattle.ap_defs.specs.Renaming.{rename_term}
+use Rattle.ap_defs.specs.Substitution.{Binding, occurs, under}
+use Rattle.ap_defs.specs.Terms.{NominalTerm, abs, act_term, app, name, pair, susp, unit}
+use Rattle.ap_defs.specs.declared.terms.Swap.{Swap}
 use Rattle.ap_defs.specs.declared.terms.Var.{Var}
 use Rattle.ap_store.specs.Founds.{does_occur}
+use Rattle.ap_store.specs.Marks.{HasNoVars, IsConstant}
 use Rattle.ap_store.specs.declared.occurrences.Occurrence.{Occurrence}
 use Rattle.ap_store.specs.declared.occurrences.Occurrence.TheVariants as occurrences
 
@@ -47,3 +52,12 @@ shut_if_ground true e = absurd (apart_not_ground e)
 pub without_like : (is_open : Bool) (w : Var) → (if is_open then occurrences.Apart else occurrences.Ground) ≡ occurrences.Like w → ⊥
 without_like true w e = apart_not_like w e
 without_like false w e = ground_not_like w e
+
+-- a constant has no variables, whatever acts on it and is bound
+pub constant_no_vars : (s : List Binding) (p : List Swap) (base : ℕ) (t : NominalTerm) → IsConstant t → HasNoVars (under s (act_term p (rename_term base t)))
+constant_no_vars s p base unit h = λ y. refl
+constant_no_vars s p base (name a) h = λ y. refl
+constant_no_vars s p base (app f t) h = λ y. ap (λ u. occurs y (under s (act_term p (rename_term base u)))) h
+constant_no_vars s p base (pair t u) h = absurd h
+constant_no_vars s p base (abs a t) h = absurd h
+constant_no_vars s p base (susp q x) h = absurd h

@@ -3,7 +3,7 @@ use Rattle.std.specs.Prelude.{◌≡◌, ℕ, zero, suc, Bool, true, false, List
 use mathlib.Core.HLevel.{Unit-prop}
 use Rattle.std.proofs.Props.{props}
 use Rattle.ap_defs.specs.Substitution.{occurs, under}
-use Rattle.ap_defs.specs.Terms.{NominalTerm}
+use Rattle.ap_defs.specs.Terms.{NominalTerm, app, name, unit}
 use Rattle.ap_defs.specs.declared.terms.Var.{Var}
 use Rattle.ap_store.specs.Changes.{Change, Made, Bound, Added, Taken, after}
 use Rattle.ap_store.specs.Triples.{Triple}
@@ -13,6 +13,13 @@ use Rattle.ap_store.specs.declared.slots.Value.TheVariants.{Unbound, Plain, Grou
 
 abbrev pub HasNoVars : NominalTerm → Type 0
 HasNoVars t = (y : Var) → occurs y t ≡ false
+
+-- a name, a constant or the term without parts
+abbrev pub IsConstant : NominalTerm → Type 0
+IsConstant unit = Unit {0}
+IsConstant (name a) = Unit {0}
+IsConstant (app f t) = t ≡ unit
+IsConstant _ = ⊥
 
 -- the binding is marked
 abbrev pub is_ground_value : Value → Bool

@@ -7,6 +7,8 @@ ghost use Rattle.ap_store.specs.Likes.{like_in};
 use ap_defs::memory::Memory;
 
 /// Makes room for what is kept beside a number, where nothing is kept beside it or higher ones so far.
+#[cold]
+#[inline(never)]
 fn make_place(likes: &mut Vec<Option<u32>>, place: usize) -> Result<(), Memory>
     ensures likes { (i : ℕ) → like_in likes.new.items i ≡ like_in likes.old.items i }
     ensures place { OnOk result (place < length likes.new.items) }

@@ -2,11 +2,11 @@
 
 ghost use Rattle.std.specs.Prelude.{◌≡◌, ◌==◌, ◌↔◌, ◌⊎◌, ℕ, [], true, Some, if◌then◌else◌, IfOk, IsTrue};
 ghost use Rattle.ap_defs.specs.Substitution.{occurs, under};
-ghost use Rattle.ap_defs.specs.Terms.{susp};
+ghost use Rattle.ap_defs.specs.Terms.{susp, term_of, unit};
 ghost use Rattle.ap_defs.specs.declared.terms.Var.{Var as variable};
 ghost use Rattle.ap_store.specs.Founds.{IsOnce, IsSight, bare_term, does_occur, occurs_in};
 ghost use Rattle.ap_store.specs.Likes.{HaveSameVars};
-ghost use Rattle.ap_store.specs.Marks.{HasNoVars};
+ghost use Rattle.ap_store.specs.Marks.{HasNoVars, IsConstant};
 ghost use Rattle.ap_store.specs.Slots.{var_at};
 ghost use Rattle.ap_store.specs.Views.{bindings_of, meaning_in};
 
@@ -236,6 +236,7 @@ fn told_of(found: Occurrence, like: Option<Var>) -> Occurrence
 
 /// Whether a variable occurs in what a part stands for: where it may be in the variables of a single one only, in
 /// what that stands for.
+#[inline(never)]
 fn occurs_in_part<'a>(
     alloc: Global,
     store: &Store<'a>,
@@ -259,9 +260,27 @@ fn occurs_in_part<'a>(
     }
 }
 
+/// Whether a term is the one without parts.
+fn is_unit(t: &Term) -> bool
+    ensures { result ≡ true → term_of t.now ≡ unit }
+{
+    matches!(t, Term::Unit)
+}
+
+/// Whether a term has no variables because it is a name, a constant, or the one without parts. It takes no memory.
+fn is_constant(t: &Term) -> bool
+    ensures { result ≡ true → IsConstant (term_of t.now) }
+{
+    match t {
+        Term::Unit | Term::Name(_) => true,
+        Term::App(_, argument) => is_unit(argument),
+        Term::Pair(_, _) | Term::Abs(_, _, _) | Term::Susp(_, _) => false,
+    }
+}
+
 impl<'a> Store<'a> {
-    /// Whether a variable occurs in what a closure stands for under the bindings. It looks at no term where the
-    /// variable is new, and takes memory where a left part of a pair is looked through alone.
+    /// Whether a variable occurs in what a closure stands for under the bindings. It looks no further than at a
+    /// constant, or where the variable is new, and takes memory where a left part of a pair is looked through alone.
     pub fn occurs(&self, alloc: Global, x: Var, c: &Closure<'a>) -> Result<Occurrence, Memory>
         ensures found { IfOk result (λ o. does_occur o ≡ occurs x (meaning_in self.now c.now)) }
         ensures no_vars { IfOk result (λ o. o ≡ Occurrence.Ground →
@@ -269,6 +288,9 @@ impl<'a> Store<'a> {
         ensures like { IfOk result (λ o. (w : variable) → o ≡ Occurrence.Like w →
             HaveSameVars (meaning_in self.now c.now) (under (bindings_of self.now) (susp [] w))) }
     {
+        if is_constant(c.term) {
+            return Ok(Occurrence::Ground);
+        }
         if self.is_new(x, c) {
             return Ok(Occurrence::Apart);
         }

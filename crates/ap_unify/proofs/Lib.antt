@@ -1,6 +1,7 @@
 pub mod BehindLemmas
 pub mod FinishLemmas
 pub mod FreshLemmas
+pub mod MovedLemmas
 pub mod PartLemmas
 pub mod ReachLemmas
 pub mod ReducingLemmas

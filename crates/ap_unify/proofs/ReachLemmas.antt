@@ -1,7 +1,9 @@
 -- Stages that are reached by one or several steps.
-use Rattle.std.proofs.Common.{◌≡◌, ◌<◌, ◌+◌, ℕ, zero, suc, inl, inr, subst, ◌∙◌, arith}
+use Rattle.std.proofs.Common.{◌≡◌, ◌<◌, ◌+◌, ℕ, zero, suc, List, ◌∷◌, inl, inr, map, subst, sym, ◌∙◌, arith}
+use Rattle.ap_defs.specs.Substitution.{Binding, Equation, Problem}
 use Rattle.ap_defs.specs.Unification.{Progress, Stage, ending, failed, next, step, unsolvable}
 use Rattle.ap_theory.proofs.TerminationLemmas.{ending_failed, ending_next, steps_left, steps_left_next}
+use Rattle.ap_rules.specs.Runs.{equation_under, problem_under, stage_under}
 use Rattle.ap_unify.specs.Parts.{IsReached, LeadsTo, Reaches}
 
 pub leads_now : (s : Stage) (p : Progress) → step s ≡ p → LeadsTo s p
@@ -43,3 +45,14 @@ then_reached (suc n) m s r p (q, e, h) k = let (j, i) = then_reached n m q r p h
 pub then_reaches : (s r : Stage) (p : Progress) → LeadsTo s (next r) → Reaches r p → LeadsTo s p
 then_reaches s r p (n, h) (inl e) = (n, subst (IsReached n s) e h)
 then_reaches s r p (n, h) (inr (m, k)) = then_reached n m s r p h k
+
+-- stages from which one step comes to the same lead to the same
+pub leads_alike : (s r : Stage) (p : Progress) → step s ≡ step r → LeadsTo s p → LeadsTo r p
+leads_alike s r p e (zero, h) = (0, sym e ∙ h)
+leads_alike s r p e (suc n, (q, f, h)) = (suc n, (q, sym e ∙ f, h))
+
+-- an equation in front that is the same under the bindings
+pub leads_under : (s : List Binding) (q r : Equation) (es : List Equation) (ps : List Problem) (p : Progress) → equation_under s q ≡ equation_under s r
+    → LeadsTo (stage_under s (q ∷ es) ps) p → LeadsTo (stage_under s (r ∷ es) ps) p
+leads_under s q r es ps p e h =
+    subst (λ (f : Equation). let t : Stage = record { equations = f ∷ map (equation_under s) es; problems = map (problem_under s) ps; bindings = s } in LeadsTo t p) e h

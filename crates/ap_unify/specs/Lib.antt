@@ -1,4 +1,5 @@
 pub mod Finishing
 pub mod Lists
+pub mod Moved
 pub mod Parts
 pub mod Unified

@@ -23,9 +23,9 @@ use Rattle.ap_unify.specs.declared.parts.Ahead.{Ahead}
 use Rattle.ap_unify.specs.declared.parts.Turn.{Turn}
 use Rattle.ap_unify.specs.declared.parts.Turn.TheVariants as turns
 use Rattle.ap_equations.specs.declared.plain.PlainPair.{PlainPair}
-use Rattle.ap_unify.specs.declared.ways.Front.{Front}
-use Rattle.ap_unify.specs.declared.ways.Way.{Way}
-use Rattle.ap_unify.specs.declared.ways.Way.TheVariants as ways
+use Rattle.ap_unify.specs.declared.fronts.Front.{Front}
+use Rattle.ap_unify.specs.declared.fronts.Way.{Way}
+use Rattle.ap_unify.specs.declared.fronts.Way.TheVariants as ways
 
 -- the second term stands for the first one, by one binding that is followed
 abbrev pub IsFurther : Triple → (Var → ℕ) → NominalTerm → NominalTerm → Type 0

@@ -3,7 +3,10 @@
 
 mod finish;
 pub mod fresh;
+mod fronts;
 mod heads;
+mod moved;
+mod moved_runs;
 mod parts;
 mod reducing;
 mod runs;

@@ -158,7 +158,7 @@ fn same_name(left: Plain<'_>, a: Name, right: Plain<'_>, b: Name) -> bool
 }
 
 /// Parts of two parts, which are numbered as these are, and known to be ground where they are.
-fn terms_of<'a>(pair: PlainPair<'a>, left: &'a Term, right: &'a Term) -> PlainPair<'a>
+pub(crate) fn terms_of<'a>(pair: PlainPair<'a>, left: &'a Term, right: &'a Term) -> PlainPair<'a>
     requires left { IsBelow pair.left.end (rename_term pair.left.base (term_of left.now)) }
     requires right { IsBelow pair.right.end (rename_term pair.right.base (term_of right.now)) }
     ensures left { plain_term result.left

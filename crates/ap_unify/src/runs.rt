@@ -11,12 +11,13 @@ ghost use Rattle.ap_equations.specs.Plain.{plain_term};
 ghost use Rattle.ap_rules.specs.Runs.{paired, stage_under};
 ghost use Rattle.ap_rules.specs.Work.{ArePairsBelow, GoOn, IsPairBelow, ending_if, equations_left, pair_equation, problems_met, progress_if, work_stage};
 
+use crate::fronts::{Front, Way};
+use crate::moved_runs::along_closures;
 use crate::parts::Ahead;
 use crate::terms::Terms;
-use crate::ways::{Front, Way, next_way};
+use crate::ways::next_way;
 use ap_defs::memory::Memory;
 use ap_equations::plain::{Plain, PlainPair};
-use ap_equations::work::by_rule;
 use ap_rules::pairs::{ClosurePair, Work};
 use ap_store::store::Store;
 use std::alloc::Global;
@@ -73,7 +74,7 @@ fn advance_by<'a>(
     let right = Plain::of(&first.right);
     match (left, right) {
         (Some(left), Some(right)) => along(alloc, store, work, PlainPair { left, right }),
-        _ => by_rule(alloc, store, work, first),
+        _ => along_closures(alloc, store, work, first),
     }
 }
 

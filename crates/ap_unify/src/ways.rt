@@ -2,36 +2,23 @@
 
 ghost use Rattle.std.specs.Prelude.{◌≡◌, ◌++◌, ℕ, List, IfOk, OnOk};
 ghost use Rattle.ap_defs.specs.Substitution.{Binding};
-ghost use Rattle.ap_defs.specs.Unification.{next, step};
+ghost use Rattle.ap_defs.specs.Unification.{next};
 ghost use Rattle.ap_store.specs.Triples.{IsPrefixOf};
 ghost use Rattle.ap_store.specs.Views.{bindings_of, kinds, present, versions};
-ghost use Rattle.ap_unify.specs.Parts.{AreBelowBoth, AreMarksTrue, AreWaitingMarksTrue, AreWayMarksTrue, IsWaitingBelow, IsWayBelow, progress_to, stage_of, stage_with, waiting_equations};
+ghost use Rattle.ap_unify.specs.Parts.{AreBelowBoth, AreMarksTrue, AreWaitingMarksTrue, AreWayMarksTrue, IsWaitingBelow, IsWayBelow, LeadsTo, progress_to, stage_of, stage_with, waiting_equations};
 ghost use Rattle.ap_rules.specs.Runs.{stage_under};
 ghost use Rattle.ap_rules.specs.Work.{ArePairsBelow, GoOn, equations_left, problems_met, progress_if, work_stage};
 ghost use Rattle.ap_rules.specs.declared.pairs.Work.{Work};
 
-use crate::parts::{Ahead, Turn, step_parts};
+use crate::fronts::{Front, Way};
+use crate::moved_runs::along_closures;
+use crate::parts::{Turn, step_parts};
 use ap_defs::memory::Memory;
 use ap_equations::plain::PlainPair;
-use ap_equations::work::{by_rule, put_equation};
+use ap_equations::work::put_equation;
 use ap_rules::pairs::{ClosurePair, Work};
 use ap_store::store::Store;
 use std::alloc::Global;
-
-/// An equation of two parts ahead of those that are left, and maybe one between that waits.
-#[derive(Clone, Copy)]
-pub struct Front<'a> {
-    pub ahead: Ahead<'a>,
-    pub waiting: Option<PlainPair<'a>>,
-}
-
-/// What comes after a step: false where there is no solution, true where the equations that are left come
-/// next; or what is in front of them.
-#[derive(Clone, Copy)]
-pub enum Way {
-    End(bool),
-    On,
-}
 
 /// Puts an equation that waits in front of those that are left.
 fn put_waiting<'a>(
@@ -56,7 +43,8 @@ fn put_waiting<'a>(
     }
 }
 
-/// The rule for two parts, by closures. It answers false where that is no solution.
+/// One or several steps for two parts, by closures on which few swappings wait. It answers false where there is no
+/// solution.
 fn by_closures<'a>(
     alloc: Global,
     store: &mut Store<'a>,
@@ -64,16 +52,15 @@ fn by_closures<'a>(
     pair: PlainPair<'a>,
 ) -> Result<bool, Memory>
     requires below { AreBelowBoth (present store.old).next pair }
-    ensures stage { IfOk result (λ goes_on. progress_if goes_on (work_stage
-        (bindings_of store.new) work.new)
-        ≡ step (stage_with (bindings_of store.old) pair.entry work.old)) }
+    ensures stage { IfOk result (λ goes_on. LeadsTo (stage_with (bindings_of store.old) pair.entry
+        work.old) (progress_if goes_on (work_stage (bindings_of store.new) work.new))) }
     ensures goes_on { OnOk result (GoOn (present store.old) work.old (present store.new) work.new) }
     ensures past { IsPrefixOf (versions store.old) (versions store.new) }
     ensures kinds { kinds store.new ≡ kinds store.old }
 {
-    let left = pair.left.closure(alloc);
-    let right = pair.right.closure(alloc);
-    by_rule(alloc, store, work, ClosurePair { left, right })
+    let left = store.shortened(pair.left.closure(alloc))?;
+    let right = store.shortened(pair.right.closure(alloc))?;
+    along_closures(alloc, store, work, ClosurePair { left, right })
 }
 
 /// The way on once nothing is left of the equation in front: the one that waits, or those that are left.
@@ -95,7 +82,7 @@ fn after_done(front: &mut Front<'_>) -> Way
     }
 }
 
-/// One step for the equation in front. It is replaced in the place.
+/// One step for the equation in front, or several by closures. It is replaced in the place.
 pub fn next_way<'a>(
     alloc: Global,
     store: &mut Store<'a>,
@@ -106,8 +93,9 @@ pub fn next_way<'a>(
     requires waiting { IsWaitingBelow (present store.old).next front.old.waiting }
     requires marks { AreMarksTrue (bindings_of store.old) front.old.ahead.next }
     requires waiting_marks { AreWaitingMarksTrue (bindings_of store.old) front.old.waiting }
-    ensures stage { IfOk result (λ way. progress_to way (bindings_of store.new) front.new work.new
-        ≡ step (stage_of (bindings_of store.old) front.old.ahead.next front.old.waiting work.old)) }
+    ensures stage { IfOk result (λ way. LeadsTo (stage_of (bindings_of store.old)
+        front.old.ahead.next front.old.waiting work.old)
+        (progress_to way (bindings_of store.new) front.new work.new)) }
     ensures below { IfOk result (λ way. IsWayBelow (present store.old).next way front.new) }
     ensures marks { IfOk result (λ way. AreWayMarksTrue (bindings_of store.new) way front.new) }
     ensures goes_on { OnOk result (GoOn (present store.old) work.old (present store.new) work.new) }

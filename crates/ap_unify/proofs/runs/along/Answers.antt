@@ -1,13 +1,12 @@
-use Rattle.std.proofs.Common.{◌≡◌, ◌+◌, subst, sym, ◌∙◌, arith}
-use Rattle.ap_defs.specs.Unification.{next, step}
+use Rattle.std.proofs.Common.{inr, subst, sym, ◌∙◌}
+use Rattle.ap_defs.specs.Unification.{next}
 use Rattle.ap_store.specs.Views.{bindings_of, present, versions}
-use Rattle.ap_theory.proofs.TerminationLemmas.{steps_left, steps_left_next}
-use Rattle.ap_unify.proofs.ReachLemmas.{leads_now, leads_on}
+use Rattle.ap_unify.proofs.ReachLemmas.{leads_less, then_reaches}
 use Rattle.ap_rules.proofs.WorkLemmas.{go_on_on, goes_on_on}
 use Rattle.ap_unify.proofs.runs.along.Goals as goal
-use Rattle.ap_unify.specs.Parts.{AreBelowBoth, AreWayMarksTrue, IsWaitingBelow, IsWayBelow, progress_to, stage_of}
+use Rattle.ap_unify.specs.Parts.{AreBelowBoth, AreWayMarksTrue, IsWaitingBelow, IsWayBelow, LeadsTo, progress_to, stage_of}
 use Rattle.ap_rules.specs.Work.{progress_if, work_stage}
-use Rattle.ap_unify.specs.declared.ways.Way.TheVariants as ways
+use Rattle.ap_unify.specs.declared.fronts.Way.TheVariants as ways
 
 pub returns-in-End-clause-stage : goal.returns-in-End-clause-stage
 returns-in-End-clause-stage c =
@@ -16,8 +15,7 @@ returns-in-End-clause-stage c =
     let f = c.next_way.new.front in
     let before = stage_of (bindings_of c.going.store) c.going.front.ahead.next c.going.front.waiting c.going.work in
     let p = progress_if c.in-End.goes_on (work_stage s w) in
-    let e : p ≡ step before = subst (λ x. progress_to x s f w ≡ step before) c.in-End.is c.in_ok-goes_on.ensures.stage in
-    c.going.invariant.leads p (leads_now before p (sym e))
+    c.going.invariant.leads p (subst (λ x. LeadsTo before (progress_to x s f w)) c.in-End.is c.in_ok-goes_on.ensures.stage)
 
 pub going-smaller : goal.going-smaller
 going-smaller c =
@@ -26,9 +24,7 @@ going-smaller c =
     let f = c.next_way.new.front in
     let before = stage_of (bindings_of c.going.store) c.going.front.ahead.next c.going.front.waiting c.going.work in
     let after = stage_of s f.ahead.next f.waiting w in
-    let e : next after ≡ step before = subst (λ x. progress_to x s f w ≡ step before) c.in-On.is c.in_ok-goes_on.ensures.stage in
-    let k : steps_left before ≡ 1 + steps_left after = steps_left_next before after (sym e) in
-    omega arith
+    leads_less before after (subst (λ x. LeadsTo before (progress_to x s f w)) c.in-On.is c.in_ok-goes_on.ensures.stage)
 
 pub going-preserved : goal.going-preserved
 going-preserved c =
@@ -40,12 +36,12 @@ going-preserved c =
     let f = c.next_way.new.front in
     let before = stage_of (bindings_of c.going.store) c.going.front.ahead.next c.going.front.waiting c.going.work in
     let after = stage_of s f.ahead.next f.waiting w in
-    let e : next after ≡ step before = subst (λ x. progress_to x s f w ≡ step before) c.in-On.is c.in_ok-goes_on.ensures.stage in
+    let e : LeadsTo before (next after) = subst (λ x. LeadsTo before (progress_to x s f w)) c.in-On.is c.in_ok-goes_on.ensures.stage in
     let n = c.in_ok-goes_on.ensures.goes_on.next in
     let marks : AreWayMarksTrue s ways.On f = subst (λ x. AreWayMarksTrue s x f) c.in-On.is c.in_ok-goes_on.ensures.marks in
     let below : IsWayBelow b.next ways.On f = subst (λ x. IsWayBelow b.next x f) c.in-On.is c.in_ok-goes_on.ensures.below in
     record {
-      leads = λ p h. c.going.invariant.leads p (leads_on before after p (sym e) h);
+      leads = λ p h. c.going.invariant.leads p (then_reaches before after p e (inr h));
       pair_below = subst (λ m. AreBelowBoth m f.ahead.next) (sym n) below.0;
       waiting_below = subst (λ m. IsWaitingBelow m f.waiting) (sym n) below.1;
       pair_marks = marks.0;

@@ -1,0 +1,244 @@
+//! The rules for two parts of terms on which swappings wait, the same for all parts of a side.
+
+ghost use Rattle.std.specs.Prelude.{◌≡◌, ◌<◌, ◌+◌, ℕ, List as list, IfOk, OnOk};
+ghost use Rattle.ap_defs.specs.Permutations.{act_name, inverse, name_eq};
+ghost use Rattle.ap_defs.specs.Renaming.{AreSwapsBelow, IsBelow, rename_name};
+ghost use Rattle.ap_defs.specs.Substitution.{Binding, under};
+ghost use Rattle.ap_defs.specs.Terms.{act_term};
+ghost use Rattle.ap_defs.specs.Unification.{unless_occurs};
+ghost use Rattle.ap_defs.specs.declared.terms.Swap.{Swap as swapping};
+ghost use Rattle.ap_equations.specs.Plain.{plain_term};
+ghost use Rattle.ap_perm.specs.Closures.{closure_term};
+ghost use Rattle.ap_rules.specs.Work.{GoOn};
+ghost use Rattle.ap_store.specs.Heads.{HasForm};
+ghost use Rattle.ap_store.specs.Triples.{IsPrefixOf};
+ghost use Rattle.ap_store.specs.Views.{bindings_of, kinds, meaning_in, present, versions};
+ghost use Rattle.ap_theory.specs.Variables.{IsUnbound};
+ghost use Rattle.ap_unify.specs.Moved.{AreMovedBelow, IsMovedRule, IsMovedTurnBelow, moved_rule};
+ghost use Rattle.ap_unify.specs.Parts.{IsHead};
+ghost use Rattle.ap_unify.specs.declared.moved.Sides.{Sides};
+ghost use Rattle.ap_unify.specs.declared.parts.Ahead.{Ahead};
+
+use crate::heads::{Head, PartWithHead, headed};
+use crate::parts::{Ahead, Turn, terms_of};
+use ap_defs::memory::Memory;
+use ap_defs::terms::{Name, Swap, Term, Var};
+use ap_equations::plain::{Plain, PlainPair};
+use ap_equations::work::bind_var;
+use ap_perm::closures::Closure;
+use ap_perm::joining::numbered;
+use ap_perm::swappings::image;
+use ap_rules::moves::moved_back;
+use ap_rules::pairs::Work;
+use ap_store::heads::head_key;
+use ap_store::store::Store;
+use std::alloc::Global;
+
+/// The swappings that wait on the parts of the left side, and on those of the right side.
+#[derive(Clone, Copy)]
+pub struct Sides<'s> {
+    pub left: &'s [Swap],
+    pub right: &'s [Swap],
+}
+
+/// A part, with bindings at its head followed as long as no swappings wait on them, and what stands at its head
+/// then. It takes no memory.
+fn head_within<'a>(store: &Store<'a>, p: Plain<'a>) -> PartWithHead<'a>
+    ensures meaning { under (bindings_of store.now) (plain_term result.part)
+        ≡ under (bindings_of store.now) (plain_term p.entry) }
+    ensures below { (q : list swapping) →
+        IsBelow (present store.now).next (act_term q (plain_term p.entry)) →
+        IsBelow (present store.now).next (act_term q (plain_term result.part)) }
+    ensures head { IsHead (bindings_of store.now) (plain_term result.part) result.head }
+{
+    match p.term {
+        Term::Susp(_, _) => headed(store, p),
+        Term::Unit | Term::Name(_) | Term::Pair(_, _) | Term::App(_, _) | Term::Abs(_, _, _) =>
+            PartWithHead {
+                part: p,
+                head: Head::Form,
+            },
+    }
+}
+
+/// The closure of a part on which swappings wait.
+pub fn moved_closure<'a>(alloc: Global, swaps: &[Swap], p: Plain<'a>) -> Result<Closure<'a>, Memory>
+    ensures { IfOk result (λ c. closure_term c ≡ act_term swaps.now (plain_term p.entry)) }
+{
+    let c = p.closure(alloc);
+    c.moved_by(alloc, swaps)
+}
+
+/// Whether two names are equal once they are numbered as two parts are, and moved as these are.
+#[tactic(auto, unfolding(ap_defs::specs::Permutations::name_eq))]
+fn same_image(sides: Sides<'_>, left: Plain<'_>, a: Name, right: Plain<'_>, b: Name) -> bool
+    requires left { left.base + a.num < left.end }
+    requires right { right.base + b.num < right.end }
+    ensures { result ≡ name_eq (act_name sides.entry.left.now (rename_name left.entry.base a))
+        (act_name sides.entry.right.now (rename_name right.entry.base b)) }
+{
+    let _end = left.end;
+    let _other_end = right.end;
+    image(sides.left, numbered(left.base, a)) == image(sides.right, numbered(right.base, b))
+}
+
+/// The rule for the two parts that come next, neither of them a suspension. It leaves abstractions with
+/// different binders to another way.
+fn moved_forms(sides: Sides<'_>, ahead: &mut Ahead<'_>) -> Turn
+    requires left_form { HasForm (plain_term ahead.old.next.left) }
+    requires right_form { HasForm (plain_term ahead.old.next.right) }
+    ensures turn { (s : list Binding) →
+        IsMovedRule sides.entry result ahead.new s s (moved_rule s sides.entry ahead.old.next) }
+    ensures below { (n : ℕ) → AreMovedBelow n sides.entry ahead.old.next →
+        IsMovedTurnBelow n sides.entry result ahead.new }
+{
+    let pair = ahead.next;
+    let PlainPair { left, right } = pair;
+    if head_key(left.term) != head_key(right.term) {
+        return Turn::Clash;
+    }
+    match (left.term, right.term) {
+        (Term::Unit, Term::Unit) => Turn::Done,
+        (Term::Name(a), Term::Name(b)) => {
+            if same_image(sides, left, *a, right, *b) {
+                Turn::Done
+            } else {
+                Turn::Clash
+            }
+        }
+        (Term::Pair(t, v), Term::Pair(u, w)) => {
+            ahead.next = terms_of(pair, t, u);
+            ahead.later = terms_of(pair, v, w);
+            Turn::Both
+        }
+        (Term::App(f, t), Term::App(g, u)) => {
+            if *f == *g {
+                ahead.next = terms_of(pair, t, u);
+                Turn::On
+            } else {
+                Turn::Clash
+            }
+        }
+        (Term::Abs(sort, num, t), Term::Abs(other_sort, other_num, u)) => {
+            let a = Name {
+                sort: *sort,
+                num: *num,
+            };
+            let b = Name {
+                sort: *other_sort,
+                num: *other_num,
+            };
+            if same_image(sides, left, a, right, b) {
+                ahead.next = terms_of(pair, t, u);
+                Turn::On
+            } else {
+                Turn::Other
+            }
+        }
+        _ => Turn::Other,
+    }
+}
+
+/// Binds an unbound variable to a closure on which the inverse of the swappings acts that wait on the variable,
+/// unless it occurs there.
+#[tactic(auto, using(ap_rules::proofs::MoveLemmas::moved_under, ap_rules::proofs::MoveLemmas::back_below, ap_rules::proofs::MoveLemmas::back_absent))]
+fn bind_back<'a>(
+    alloc: Global,
+    store: &mut Store<'a>,
+    work: &mut Work<'a>,
+    p: &[Swap],
+    x: Var,
+    c: Closure<'a>,
+) -> Result<Turn, Memory>
+    requires made { x.num < (present store.old).next }
+    requires unbound { IsUnbound (bindings_of store.old) x }
+    requires swaps { AreSwapsBelow (present store.old).next p.now }
+    requires below { IsBelow (present store.old).next (closure_term c) }
+    ensures turn { IfOk result (λ turn. (m : Sides) (f : Ahead) →
+        IsMovedRule m turn f (bindings_of store.old) (bindings_of store.new)
+        (unless_occurs x (meaning_in store.old c.entry)
+        (act_term (inverse p.now) (meaning_in store.old c.entry)))) }
+    ensures below { IfOk result (λ turn. (m : Sides) (f : Ahead) →
+        IsMovedTurnBelow (present store.old).next m turn f) }
+    ensures equations { work.new.equations.items ≡ work.old.equations.items }
+    ensures problems { work.new.problems.items ≡ work.old.problems.items }
+    ensures goes_on { OnOk result (GoOn (present store.old) work.old (present store.new) work.new) }
+    ensures past { IsPrefixOf (versions store.old) (versions store.new) }
+    ensures kinds { kinds store.new ≡ kinds store.old }
+{
+    let found = store.occurs(alloc, x, &c)?;
+    if found.occurs() {
+        return Ok(Turn::Clash);
+    }
+    let moved = moved_back(alloc, p, c)?;
+    bind_var(alloc, store, work, x, moved, found.is_ground())?;
+    Ok(Turn::Done)
+}
+
+/// The rule for the two parts that come next, with these heads, once bindings there are followed.
+fn by_moved_heads<'a>(
+    alloc: Global,
+    store: &mut Store<'a>,
+    work: &mut Work<'a>,
+    sides: Sides<'_>,
+    ahead: &mut Ahead<'a>,
+    left: Head,
+    right: Head,
+) -> Result<Turn, Memory>
+    requires left { IsHead (bindings_of store.old) (plain_term ahead.old.next.left) left }
+    requires right { IsHead (bindings_of store.old) (plain_term ahead.old.next.right) right }
+    requires below { AreMovedBelow (present store.old).next sides ahead.old.next }
+    ensures turn { IfOk result (λ turn. IsMovedRule sides.entry turn ahead.new
+        (bindings_of store.old) (bindings_of store.new)
+        (moved_rule (bindings_of store.old) sides.entry ahead.old.next)) }
+    ensures below { IfOk result (λ turn.
+        IsMovedTurnBelow (present store.old).next sides.entry turn ahead.new) }
+    ensures equations { work.new.equations.items ≡ work.old.equations.items }
+    ensures problems { work.new.problems.items ≡ work.old.problems.items }
+    ensures goes_on { OnOk result (GoOn (present store.old) work.old (present store.new) work.new) }
+    ensures past { IsPrefixOf (versions store.old) (versions store.new) }
+    ensures kinds { kinds store.new ≡ kinds store.old }
+{
+    match (left, right) {
+        (Head::Form, Head::Form) => Ok(moved_forms(sides, ahead)),
+        (Head::Free(x), Head::Form) => {
+            let c = moved_closure(alloc, sides.right, ahead.next.right)?;
+            bind_back(alloc, store, work, sides.left, x, c)
+        }
+        (Head::Form, Head::Free(y)) => {
+            let c = moved_closure(alloc, sides.left, ahead.next.left)?;
+            bind_back(alloc, store, work, sides.right, y, c)
+        }
+        _ => Ok(Turn::Other),
+    }
+}
+
+/// The rule for the two parts that come next, if there is one that leaves the swappings as they are. What comes
+/// after it is put in their place.
+pub fn step_moved<'a>(
+    alloc: Global,
+    store: &mut Store<'a>,
+    work: &mut Work<'a>,
+    sides: Sides<'_>,
+    ahead: &mut Ahead<'a>,
+) -> Result<Turn, Memory>
+    requires below { AreMovedBelow (present store.old).next sides ahead.old.next }
+    ensures turn { IfOk result (λ turn. IsMovedRule sides.entry turn ahead.new
+        (bindings_of store.old) (bindings_of store.new)
+        (moved_rule (bindings_of store.old) sides.entry ahead.old.next)) }
+    ensures below { IfOk result (λ turn.
+        IsMovedTurnBelow (present store.old).next sides.entry turn ahead.new) }
+    ensures equations { work.new.equations.items ≡ work.old.equations.items }
+    ensures problems { work.new.problems.items ≡ work.old.problems.items }
+    ensures goes_on { OnOk result (GoOn (present store.old) work.old (present store.new) work.new) }
+    ensures past { IsPrefixOf (versions store.old) (versions store.new) }
+    ensures kinds { kinds store.new ≡ kinds store.old }
+{
+    let left = head_within(store, ahead.next.left);
+    let right = head_within(store, ahead.next.right);
+    ahead.next = PlainPair {
+        left: left.part,
+        right: right.part,
+    };
+    by_moved_heads(alloc, store, work, sides, ahead, left.head, right.head)
+}

@@ -1,0 +1,224 @@
+//! How a run goes on from an equation of closures on which swappings wait.
+
+ghost use Rattle.std.specs.Prelude.{◌≡◌, ◌∷◌, ◌++◌, ℕ, List, IfOk, OnOk};
+ghost use Rattle.ap_defs.specs.Substitution.{Binding};
+ghost use Rattle.ap_defs.specs.Terms.{act_term};
+ghost use Rattle.ap_defs.specs.Unification.{next, step};
+ghost use Rattle.ap_equations.specs.Plain.{plain_term};
+ghost use Rattle.ap_perm.specs.Closures.{closure_term};
+ghost use Rattle.ap_rules.specs.Runs.{stage_under};
+ghost use Rattle.ap_rules.specs.Work.{ArePairsBelow, GoOn, IsPairBelow, equations_left, pair_equation, problems_met, progress_if, work_stage};
+ghost use Rattle.ap_rules.specs.declared.pairs.Work.{Work};
+ghost use Rattle.ap_store.specs.Triples.{IsPrefixOf};
+ghost use Rattle.ap_store.specs.Views.{bindings_of, kinds, present, versions};
+ghost use Rattle.ap_unify.specs.Moved.{AreMovedBelow, IsMovedWaitingBelow, IsMovedWayBelow, moved_equation, moved_progress_to, moved_stage, moved_waiting};
+ghost use Rattle.ap_unify.specs.Parts.{LeadsTo};
+
+use crate::fronts::{Front, Way};
+use crate::moved::{Sides, moved_closure, step_moved};
+use crate::parts::{Ahead, Turn};
+use ap_defs::memory::Memory;
+use ap_defs::terms::Term;
+use ap_equations::plain::{Plain, PlainPair};
+use ap_equations::work::{by_rule, put_equation};
+use ap_perm::closures::Closure;
+use ap_rules::pairs::{ClosurePair, Work};
+use ap_store::store::Store;
+use std::alloc::Global;
+
+/// The equation of two parts on which swappings wait.
+fn pair_of<'a>(
+    alloc: Global,
+    sides: Sides<'_>,
+    pair: PlainPair<'a>,
+) -> Result<ClosurePair<'a>, Memory>
+    ensures same { IfOk result (λ e. pair_equation e ≡ moved_equation sides.entry pair.entry) }
+    ensures below { IfOk result (λ e. (n : ℕ) → AreMovedBelow n sides.entry pair.entry →
+        IsPairBelow n e) }
+{
+    let left = moved_closure(alloc, sides.left, pair.left)?;
+    let right = moved_closure(alloc, sides.right, pair.right)?;
+    Ok(ClosurePair { left, right })
+}
+
+/// Puts an equation that waits in front of those that are left.
+fn put_moved<'a>(
+    alloc: Global,
+    work: &mut Work<'a>,
+    sides: Sides<'_>,
+    waiting: Option<PlainPair<'a>>,
+) -> Result<(), Memory>
+    ensures equations { OnOk result (equations_left work.new
+        ≡ moved_waiting sides.entry waiting.entry ++ equations_left work.old) }
+    ensures below { OnOk result ((n : ℕ) → IsMovedWaitingBelow n sides.entry waiting.entry →
+        ArePairsBelow n work.old.equations.items → ArePairsBelow n work.new.equations.items) }
+    ensures problems { work.new.problems.items ≡ work.old.problems.items }
+    ensures taken { work.new.taken.items ≡ work.old.taken.items }
+{
+    match waiting {
+        None => Ok(()),
+        Some(pair) => {
+            let e = pair_of(alloc, sides, pair)?;
+            put_equation(work, e)
+        }
+    }
+}
+
+/// The rule for two parts on which swappings wait, by closures. It answers false where that is no solution.
+fn by_moved_closures<'a>(
+    alloc: Global,
+    store: &mut Store<'a>,
+    work: &mut Work<'a>,
+    sides: Sides<'_>,
+    pair: PlainPair<'a>,
+) -> Result<bool, Memory>
+    requires below { AreMovedBelow (present store.old).next sides pair }
+    ensures stage { IfOk result (λ goes_on. progress_if goes_on (work_stage
+        (bindings_of store.new) work.new)
+        ≡ step (stage_under (bindings_of store.old) (moved_equation sides.entry pair.entry ∷
+        equations_left work.old) (problems_met work.old))) }
+    ensures goes_on { OnOk result (GoOn (present store.old) work.old (present store.new) work.new) }
+    ensures past { IsPrefixOf (versions store.old) (versions store.new) }
+    ensures kinds { kinds store.new ≡ kinds store.old }
+{
+    let e = pair_of(alloc, sides, pair)?;
+    by_rule(alloc, store, work, e)
+}
+
+/// The way on once nothing is left of the equation in front: the one that waits, or those that are left.
+fn after_moved(front: &mut Front<'_>) -> Way
+    ensures way { (s : List Binding) → (m : Sides) → (w : Work) →
+        moved_progress_to result s m front.new w ≡ next (stage_under s
+        (moved_waiting m front.old.waiting ++ equations_left w) (problems_met w)) }
+    ensures below { (n : ℕ) → (m : Sides) → IsMovedWaitingBelow n m front.old.waiting →
+        IsMovedWayBelow n m result front.new }
+{
+    match front.waiting {
+        None => Way::End(true),
+        Some(pair) => {
+            front.ahead.next = pair;
+            front.waiting = None;
+            Way::On
+        }
+    }
+}
+
+/// One step for the equation in front. It is replaced in the place.
+fn next_moved<'a>(
+    alloc: Global,
+    store: &mut Store<'a>,
+    work: &mut Work<'a>,
+    sides: Sides<'_>,
+    front: &mut Front<'a>,
+) -> Result<Way, Memory>
+    requires pair { AreMovedBelow (present store.old).next sides front.old.ahead.next }
+    requires waiting { IsMovedWaitingBelow (present store.old).next sides front.old.waiting }
+    ensures stage { IfOk result (λ way. moved_progress_to way (bindings_of store.new) sides.entry
+        front.new work.new ≡ step (moved_stage (bindings_of store.old) sides.entry
+        front.old.ahead.next front.old.waiting work.old)) }
+    ensures below { IfOk result (λ way.
+        IsMovedWayBelow (present store.old).next sides.entry way front.new) }
+    ensures goes_on { OnOk result (GoOn (present store.old) work.old (present store.new) work.new) }
+    ensures past { IsPrefixOf (versions store.old) (versions store.new) }
+    ensures kinds { kinds store.new ≡ kinds store.old }
+{
+    match step_moved(alloc, store, work, sides, &mut front.ahead)? {
+        Turn::Clash => Ok(Way::End(false)),
+        Turn::Done => Ok(after_moved(front)),
+        Turn::On => Ok(Way::On),
+        Turn::Both => {
+            put_moved(alloc, work, sides, front.waiting)?;
+            front.waiting = Some(front.ahead.later);
+            Ok(Way::On)
+        }
+        Turn::Other => {
+            put_moved(alloc, work, sides, front.waiting)?;
+            let solved = by_moved_closures(alloc, store, work, sides, front.ahead.next)?;
+            Ok(Way::End(solved))
+        }
+    }
+}
+
+/// The part that a closure is, without the swappings that wait on it.
+fn part_of<'a>(c: &Closure<'a>) -> Plain<'a>
+    ensures { act_term c.now.swaps.items (plain_term result) ≡ closure_term c.now }
+{
+    Plain {
+        base: c.base,
+        end: c.end,
+        term: c.term,
+        is_ground: false,
+    }
+}
+
+/// Whether two closures are abstractions, whose binders mostly differ: then the swappings change at once. It spares
+/// work alone.
+fn are_abstractions(e: &ClosurePair<'_>) -> bool {
+    matches!(
+        (e.left.term, e.right.term),
+        (Term::Abs(_, _, _), Term::Abs(_, _, _))
+    )
+}
+
+/// Rewrites an equation of two parts on which swappings wait, in front of those that are left, as long as this makes
+/// another one with the same swappings. It answers false where there is no solution.
+fn along_moved<'a>(
+    alloc: Global,
+    store: &mut Store<'a>,
+    work: &mut Work<'a>,
+    sides: Sides<'_>,
+    first: PlainPair<'a>,
+) -> Result<bool, Memory>
+    requires { AreMovedBelow (present store.old).next sides first }
+    ensures stage { IfOk result (λ goes_on. LeadsTo (stage_under (bindings_of store.old)
+        (moved_equation sides.entry first.entry ∷ equations_left work.old) (problems_met work.old))
+        (progress_if goes_on (work_stage (bindings_of store.new) work.new))) }
+    ensures goes_on { OnOk result (GoOn (present store.old) work.old (present store.new) work.new) }
+    ensures past { IsPrefixOf (versions store.old) (versions store.new) }
+    ensures kinds { kinds store.new ≡ kinds store.old }
+{
+    let ahead = Ahead {
+        next: first,
+        later: first,
+    };
+    let mut front = Front {
+        ahead,
+        waiting: None,
+    };
+    'going: loop {
+        match next_moved(alloc, store, work, sides, &mut front)? {
+            Way::End(goes_on) => return Ok(goes_on),
+            Way::On => {}
+        }
+    }
+}
+
+/// One or several steps for an equation of closures in front of those that are left, with the swappings lent that
+/// wait on either side. It answers false where there is no solution.
+pub fn along_closures<'a>(
+    alloc: Global,
+    store: &mut Store<'a>,
+    work: &mut Work<'a>,
+    first: ClosurePair<'a>,
+) -> Result<bool, Memory>
+    requires { IsPairBelow (present store.old).next first }
+    ensures stage { IfOk result (λ goes_on. LeadsTo (stage_under (bindings_of store.old)
+        (pair_equation first.entry ∷ equations_left work.old) (problems_met work.old))
+        (progress_if goes_on (work_stage (bindings_of store.new) work.new))) }
+    ensures goes_on { OnOk result (GoOn (present store.old) work.old (present store.new) work.new) }
+    ensures past { IsPrefixOf (versions store.old) (versions store.new) }
+    ensures kinds { kinds store.new ≡ kinds store.old }
+{
+    if are_abstractions(&first) {
+        return by_rule(alloc, store, work, first);
+    }
+    let pair = PlainPair {
+        left: part_of(&first.left),
+        right: part_of(&first.right),
+    };
+    let sides = Sides {
+        left: &first.left.swaps,
+        right: &first.right.swaps,
+    };
+    along_moved(alloc, store, work, sides, pair)
+}
