@@ -94,6 +94,7 @@ impl<'a> Predicate<'a> {
 
     /// The first place from a place on of a clause that an atom with this key may enter, the number of
     /// clauses where there is none, or the place itself where that is behind them. It takes no memory.
+    #[inline(always)]
     pub fn next(&self, key: u64, from: usize) -> usize
         ensures { result ≡ from + position_or_len (λ c. agree key (first_key c.args))
             (map clause_of (drop from self.now)) }

@@ -91,6 +91,7 @@ impl<'a> Store<'a> {
 
     /// Gives a number to each of these identifiers, in order, and answers the first. After want of
     /// memory the store is as before; `2 ^ 32` numbers and more are such a want.
+    #[inline(always)]
     pub fn make(&mut self, locals: &'a [Local]) -> Result<u64, Memory>
         ensures first { IfOk result (λ n. n ≡ (present self.old).next) }
         ensures kinds { OnOk result (kinds self.new
@@ -292,6 +293,7 @@ impl<'a> Store<'a> {
 
     /// Notes what a variable is bound to; the variables in it are below `end`, and the same as those in what
     /// another one stands for, if one is given.
+    #[inline(always)]
     fn note_binding(&mut self, x: Var, value: Value<'a>, end: u64, like: Option<u32>)
         requires room { vec_len self.old.trail < vec_capacity self.old.trail }
         requires made { x.num < (present self.old).next }

@@ -89,6 +89,7 @@ fn unify_head<'a>(
 
 /// Enters a clause: its head is unified with the arguments of an atom, and its body waits. It answers
 /// whether that has a solution; where not, the machine is as before.
+#[inline(always)]
 pub fn enter_clause<'a>(
     alloc: Global,
     machine: &mut Machine<'a>,

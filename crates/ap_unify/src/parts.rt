@@ -49,6 +49,7 @@ pub enum Turn {
 }
 
 /// Binds an unbound variable to a part in which it does not occur.
+#[inline(always)]
 fn bind_part<'a>(
     alloc: Global,
     store: &mut Store<'a>,
@@ -80,6 +81,7 @@ fn bind_part<'a>(
 }
 
 /// Binds an unbound variable to a part, unless it occurs there. One that is known to be ground needs no look.
+#[inline(always)]
 fn bind_unless_occurs<'a>(
     alloc: Global,
     store: &mut Store<'a>,
