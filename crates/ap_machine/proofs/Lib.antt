@@ -1,5 +1,6 @@
 pub mod AnswerLemmas
 pub mod BroughtLemmas
+pub mod ChainLemmas
 pub mod ClosedLemmas
 pub mod GoalStackLemmas
 pub mod MachineLemmas

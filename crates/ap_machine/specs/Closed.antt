@@ -1,7 +1,8 @@
 -- Terms with all bindings carried out and canonical lists, while they are made.
 use Rattle.std.specs.Prelude.{ℕ, ◌+◌, ◌*◌, List, [], ◌∷◌}
 use Rattle.ap_defs.specs.Canonical.{canonical_term}
-use Rattle.ap_defs.specs.Terms.{NominalTerm, abs, app, pair, term_of}
+use Rattle.ap_defs.specs.Terms.{NominalTerm, abs, act_term, app, pair, term_of}
+use Rattle.ap_defs.specs.declared.terms.Swap.{Swap}
 use Rattle.ap_defs.specs.Unification.{size}
 use Rattle.ap_store.specs.Views.{meaning_in}
 use Rattle.ap_store.specs.declared.store.Store.{Store}
@@ -42,3 +43,7 @@ round_work s _ = 1
 abbrev pub rounds_work : Store → List Round → ℕ
 rounds_work s [] = 0
 rounds_work s (r ∷ rs) = round_work s r + rounds_work s rs
+
+-- what swappings make of a term, with canonical lists
+abbrev pub moved : List Swap → NominalTerm → NominalTerm
+moved p t = canonical_term (act_term p t)

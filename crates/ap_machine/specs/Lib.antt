@@ -1,6 +1,7 @@
 pub mod Below
 pub mod BelowProps
 pub mod Brought
+pub mod Chains
 pub mod Closed
 pub mod GoalStackProps
 pub mod GoalStacks

@@ -2,53 +2,28 @@
 
 ghost use Rattle.std.specs.Prelude.{◌≡◌, ◌<◌, ◌^◌, [], IfOk, length, map};
 ghost use Rattle.std.specs.Option.{option_to_list};
-ghost use Rattle.ap_defs.specs.Answers.{answer_of, closed_term, kind_at, typed_var_of, typed_vars, with_type};
-ghost use Rattle.ap_defs.specs.Terms.{susp, term_of};
+ghost use Rattle.ap_defs.specs.Answers.{answer_of, kind_at, typed_var_of, typed_vars, with_type};
+ghost use Rattle.ap_defs.specs.Terms.{term_of};
 ghost use Rattle.ap_defs.specs.Types.{locals_of};
-ghost use Rattle.ap_search.specs.Records.{closed_vars};
 ghost use Rattle.ap_machine.specs.Brought.{vars_of_brought};
 ghost use Rattle.ap_machine.specs.Unbound.{answer_by_unbound, vars_besides};
 ghost use Rattle.ap_machine.specs.Views.{state_in};
 ghost use Rattle.ap_store.specs.Views.{kinds};
 
 use crate::brought::Brought;
-use crate::closing::closed_from;
+use crate::chains::closed;
 use crate::renaming::vars_of_locals;
 use crate::unbound::unbound_of;
 use crate::vars::{add_vars_of_conds, add_vars_of_terms, make_ascending};
 use ap_defs::copies::copy_type;
 use ap_defs::goals::{Kind, Local};
-use ap_defs::lists::{List, Swaps};
+use ap_defs::lists::List;
 use ap_defs::memory::Memory;
 use ap_defs::outcomes::Answer;
 use ap_defs::terms::{Cond, Term, Ty, Var};
 use ap_perm::closures::Closure;
 use ap_store::store::Store;
 use std::alloc::Global;
-
-/// What a variable stands for, with canonical lists. Suspensions on which no swappings wait share the given ones,
-/// which are none.
-fn closed_var<'a>(alloc: Global, store: &Store<'a>, none: &Swaps, x: Var) -> Result<Term, Memory>
-    requires { none.now ≡ [] }
-    ensures { IfOk result (λ t. term_of t ≡ closed_term (state_in store.now) (susp [] x)) }
-{
-    match store.binding(x) {
-        None => Ok(Term::Susp(none.share()?, x)),
-        Some(bound) => closed_from(alloc, store, none, bound),
-    }
-}
-
-/// What variables stand for, with canonical lists.
-pub fn closed(alloc: Global, store: &Store<'_>, vars: &[Var]) -> Result<Vec<Term>, Memory>
-    ensures { IfOk result (λ v. map term_of v.items ≡ closed_vars (state_in store.now) vars.now) }
-{
-    let none = Swaps::none(alloc)?;
-    let mut terms = Vec::new(alloc);
-    'closing: for x in vars {
-        terms.push(closed_var(alloc, store, &none, *x)?)?;
-    }
-    Ok(terms)
-}
 
 /// The set of the variables of bindings, of conditions and of further ones.
 fn vars_among(

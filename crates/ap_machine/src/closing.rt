@@ -43,7 +43,7 @@ pub enum Part<'a> {
 }
 
 /// The canonical list of a permutation. Where nothing is moved, as nearly always, it takes no time.
-fn canonical_of(alloc: Global, swaps: Vec<Swap>) -> Result<Vec<Swap>, Memory>
+pub(crate) fn canonical_of(alloc: Global, swaps: Vec<Swap>) -> Result<Vec<Swap>, Memory>
     ensures { IfOk result (λ r. r.items ≡ canonical swaps.items) }
 {
     if swaps.is_empty() {

@@ -6,11 +6,13 @@
 pub mod answer_copies;
 pub mod answers;
 pub mod brought;
+mod chains;
 pub mod closing;
 pub mod frames;
 pub mod free_vars;
 pub mod goal_stack;
 pub mod machine;
+mod moving;
 pub mod renaming;
 pub mod saves;
 pub mod unbound;

@@ -12,6 +12,7 @@ mod run;
 mod solver;
 mod status;
 
+pub use ap_stream::AtEnd;
 pub use faults::fault_report;
 pub use report::Report;
 pub use run::report_text;

@@ -14,6 +14,7 @@ use ap_index::index::Index;
 use ap_io::Gate;
 use ap_paths::Limit;
 use ap_program::restricted::Restricted;
+use ap_stream::AtEnd;
 use ap_text::{TextError, program_of_text};
 use std::alloc::Global;
 use std::sync::Wait;
@@ -42,7 +43,8 @@ fn report_restricted<R: Threads + Wait + Sync, G: Gate>(
 /// The report on a text, to a depth: the line of the first fault, or what the program's queries are
 /// answered, each up to the last answer that is wanted. So many workers search each query that few turns
 /// don't answer, or each query where the gate may hold them; two or more pass the gate before each path
-/// that they take up. What the report is does not depend on how many there are.
+/// that they take up. What the report is does not depend on how many there are, nor on what becomes of the
+/// program at the end.
 ///
 /// `Err` is want of memory.
 #[tactic(auto, using(crate::proofs::Texts::refused_report, crate::proofs::Texts::answered_report, crate::proofs::Texts::report_one))]
@@ -53,6 +55,7 @@ pub fn report_text<R: Threads + Wait + Sync, G: Gate>(
     depth: Depth,
     workers: Workers,
     limit: Limit,
+    at_end: AtEnd,
     text: &[u8],
 ) -> Result<Report, Memory>
     requires { length text.now ≤ size_limit }
@@ -63,7 +66,11 @@ pub fn report_text<R: Threads + Wait + Sync, G: Gate>(
         IsTextReport (run_report depth limit) text.now s → s ≡ r) }
 {
     match program_of_text(alloc, text) {
-        Ok(program) => report_restricted(rt, alloc, gate, depth, workers, limit, &program),
+        Ok(program) => {
+            let report = report_restricted(rt, alloc, gate, depth, workers, limit, &program);
+            at_end.end(program);
+            report
+        }
         Err(TextError::Fault(fault)) => fault_report(alloc, &fault),
         Err(TextError::Memory) => Err(Memory),
     }

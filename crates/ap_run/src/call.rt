@@ -11,7 +11,7 @@ use crate::putting::put;
 use crate::running::report_run;
 use ap_defs::memory::Memory;
 use ap_io::{Gate, Sink, Source};
-use ap_report::{Report, Status};
+use ap_report::{AtEnd, Report, Status};
 use ap_words::Asked;
 use std::alloc::Global;
 use std::sync::Wait;
@@ -30,6 +30,7 @@ fn report_asked<R: Threads + Wait + Sync, S: Source, G: Gate>(
     alloc: Global,
     gate: &G,
     asked: Asked,
+    at_end: AtEnd,
     source: &mut S,
 ) -> Result<Report, Memory>
     ensures unread { is_run (Some asked) ≡ false → source.new ≡ source.old }
@@ -43,7 +44,7 @@ fn report_asked<R: Threads + Wait + Sync, S: Source, G: Gate>(
             depth,
             workers,
             limit,
-        } => report_run(rt, alloc, gate, depth, workers, limit, source),
+        } => report_run(rt, alloc, gate, depth, workers, limit, at_end, source),
         Asked::Prove { .. } => refused(alloc),
         Asked::Check => refused(alloc),
         Asked::Convert { .. } => refused(alloc),
@@ -62,6 +63,7 @@ fn report<R: Threads + Wait + Sync, S: Source, G: Gate>(
     alloc: Global,
     gate: &G,
     words: &[String],
+    at_end: AtEnd,
     source: &mut S,
 ) -> Result<Report, Memory>
     ensures unread { is_run (asked_of (map string_bytes words.now)) ≡ false →
@@ -72,7 +74,7 @@ fn report<R: Threads + Wait + Sync, S: Source, G: Gate>(
         × IsTheRunReport (map string_bytes words.now) input r) }
 {
     match ap_words::read(alloc, words)? {
-        Some(asked) => report_asked(rt, alloc, gate, asked, source),
+        Some(asked) => report_asked(rt, alloc, gate, asked, at_end, source),
         None => refused(alloc),
     }
 }
@@ -81,7 +83,8 @@ fn report<R: Threads + Wait + Sync, S: Source, G: Gate>(
 /// sink. The words are those after the program's name; where they are refused, or ask for another
 /// command, nothing is read, and the report is that of refused words. Two workers or more search side by
 /// side, each on a thread of its own where threads can be started, and pass the gate before each path
-/// that they take up; what is written does not depend on how many there are.
+/// that they take up; what is written does not depend on how many there are. The program of the text is
+/// dropped in the end, or left to the system, which takes less time where the process ends with the run.
 ///
 /// The statuses and what is written are those of `run` by the top call of all commands: the reports of
 /// the text's queries, one after the other, each what sequential nominal resolution finds to the depth
@@ -95,6 +98,7 @@ pub fn run<R: Threads + Wait + Sync, S: Source, K: Sink, G: Gate>(
     source: &mut S,
     sink: &mut K,
     gate: &G,
+    at_end: AtEnd,
 ) -> Status
     // Nothing is read where no run is asked for.
     ensures unread { is_run (asked_of (map string_bytes words.now)) ≡ false →
@@ -119,7 +123,7 @@ pub fn run<R: Threads + Wait + Sync, S: Source, K: Sink, G: Gate>(
       faults' = K.faults sink.new;
     }) }
 {
-    match report(rt, alloc, gate, words, source) {
+    match report(rt, alloc, gate, words, at_end, source) {
         Ok(report) => put(sink, &report),
         Err(Memory) => Status::Memory,
     }

@@ -13,7 +13,7 @@ mod reading;
 mod running;
 mod writing;
 
-pub use ap_report::Status;
+pub use ap_report::{AtEnd, Status};
 pub use call::run;
 pub use lines::line;
 pub use putting::put;

@@ -11,7 +11,7 @@ use ap_defs::limits::{Depth, Workers};
 use ap_defs::memory::Memory;
 use ap_io::{Gate, Source};
 use ap_paths::Limit;
-use ap_report::{Report, Status, report_text};
+use ap_report::{AtEnd, Report, Status, report_text};
 use std::alloc::Global;
 use std::sync::Wait;
 use std::thread::Threads;
@@ -24,6 +24,7 @@ pub fn report_run<R: Threads + Wait + Sync, S: Source, G: Gate>(
     depth: Depth,
     workers: Workers,
     limit: Limit,
+    at_end: AtEnd,
     source: &mut S,
 ) -> Result<Report, Memory>
     ensures { IfOk result (λ r. (input : Input)
@@ -31,7 +32,7 @@ pub fn report_run<R: Threads + Wait + Sync, S: Source, G: Gate>(
         × IsOnlyReport (IsReportOn (IsTextReport (run_report depth limit)) input) r) }
 {
     match read_whole(alloc, source) {
-        Ok(text) => report_text(rt, alloc, gate, depth, workers, limit, &text),
+        Ok(text) => report_text(rt, alloc, gate, depth, workers, limit, at_end, &text),
         Err(ReadError::Failed) => line(alloc, "% read fault\n", Status::Read),
         Err(ReadError::TooLarge) => line(alloc, "% text too large\n", Status::TooLarge),
         Err(ReadError::Memory) => Err(Memory),

@@ -5,7 +5,7 @@
 
 use ap_beside::{Counting, Remembering, given_words, keep_memory, say};
 use ap_io::{NoGate, StdSink, StdSource};
-use ap_run::Status;
+use ap_run::{AtEnd, Status};
 use std::process::ExitCode;
 use std::sync::Wait;
 use std::thread::{Builder, Threads};
@@ -24,7 +24,15 @@ fn run<R: Threads + Wait + Sync + AllocGlobal + Input + Print + Eprint>(
     keep_memory(alloc);
     let mut source = Remembering::new(alloc, StdSource::new(rt.reader()));
     let mut sink = Counting::new(StdSink::new(io::writer(rt)));
-    let status = ap_run::run(rt, alloc, words, &mut source, &mut sink, &NoGate);
+    let status = ap_run::run(
+        rt,
+        alloc,
+        words,
+        &mut source,
+        &mut sink,
+        &NoGate,
+        AtEnd::Left,
+    );
     say(rt, alloc, status, source.read_so_far(), sink.tally());
     status
 }

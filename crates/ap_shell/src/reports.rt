@@ -14,7 +14,7 @@ use ap_defs::memory::Memory;
 use ap_examine::examine_text;
 use ap_io::Gate;
 use ap_paths::Limit;
-use ap_report::{Report, Status, report_text};
+use ap_report::{AtEnd, Report, Status, report_text};
 use ap_text_commands::{count_text, prove_text};
 use std::alloc::Global;
 use std::sync::Wait;
@@ -51,6 +51,7 @@ pub(crate) fn run_report<R: Threads + Wait + Sync, G: Gate>(
         settings.depth,
         settings.workers,
         limit,
+        AtEnd::Dropped,
         text,
     )
 }

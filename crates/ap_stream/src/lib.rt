@@ -5,10 +5,12 @@
 //! too, as several workers give them.
 #![tactic(auto)]
 
+mod at_end;
 mod builder;
 mod report;
 mod search;
 
+pub use at_end::AtEnd;
 pub use builder::ReportBuilder;
 pub use report::{report_of_runs, stream_report};
 pub use search::Search;

@@ -15,7 +15,7 @@ mod prove;
 use ap_defs::memory::Memory;
 use ap_io::{Gate, Source};
 use ap_report::Report;
-use ap_run::report_run;
+use ap_run::{AtEnd, report_run};
 use ap_text_commands::report_work;
 use ap_words::Asked;
 use std::alloc::Global;
@@ -41,7 +41,16 @@ pub(crate) fn report_of<R: Threads + Wait + Sync, S: Source, G: Gate>(
             depth,
             workers,
             limit,
-        } => report_run(rt, alloc, gate, depth, workers, limit, source),
+        } => report_run(
+            rt,
+            alloc,
+            gate,
+            depth,
+            workers,
+            limit,
+            AtEnd::Dropped,
+            source,
+        ),
         Asked::Prove {
             depth,
             workers,

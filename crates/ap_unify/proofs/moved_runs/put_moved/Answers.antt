@@ -1,4 +1,4 @@
-use Rattle.ap_perm.proofs.StepLemmas.{on_ok}
+use Rattle.ap_fresh.proofs.StepLemmas.{on_ok}
 use Rattle.ap_unify.proofs.MovedLemmas.{put_first, put_first_below}
 use Rattle.ap_unify.proofs.moved_runs.put_moved.Goals as goal
 use Rattle.ap_unify.specs.Moved.{moved_equation}

@@ -3,7 +3,7 @@ use Rattle.std.specs.Prelude.{IfOk}
 use Rattle.ap_defs.specs.Terms.{NominalTerm, susp, term_of}
 use Rattle.ap_perm.specs.Closures.{lent_term}
 use Rattle.ap_machine.proofs.AnswerLemmas.{closed_bound, closed_unbound}
-use Rattle.ap_machine.proofs.answers.closed_var.Goals as goal
+use Rattle.ap_machine.proofs.chains.closed_var.Goals as goal
 
 pub returns-in_ok-share-in-None : goal.returns-in_ok-share-in-None
 returns-in_ok-share-in-None c = ap (λ p. susp p c.args.x) (c.in_ok-share-in-None.ensures ∙ c.requires) ∙ closed_unbound c.args.store.now c.args.x c.in-None.ensures
