@@ -11,6 +11,7 @@ pub mod choices;
 pub mod counted;
 pub mod descent;
 pub mod ends;
+mod letting_go;
 pub mod points;
 pub mod problem;
 pub mod run;

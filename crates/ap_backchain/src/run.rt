@@ -17,6 +17,7 @@ ghost use Rattle.ap_backchain.specs.Wanted as limits;
 ghost use Rattle.ap_paths.specs.Limits.{part};
 
 use crate::choices::is_choosing;
+use crate::letting_go::let_go;
 use crate::points::ChoicePoint;
 use crate::wanted::{is_wanting, wanted_after};
 use crate::ways::{choose_by, resume};
@@ -40,9 +41,6 @@ pub enum Paths {
     Kept,
     Left,
 }
-
-// So many cells of goals that wait no longer are let go at once.
-const MANY_CELLS: usize = 1_024;
 
 // A search of so many turns is over sooner than a thread is started.
 const FEW_TURNS: u32 = 1_000;
@@ -185,64 +183,9 @@ fn turn_on<'a>(
     }
 }
 
-/// Lets go of the cells of goals that wait no longer, where there are many.
-fn let_go_cells<'a>(machine: &mut Machine<'a>)
-    ensures { position_of machine.new ≡ position_of machine.old }
-{
-    let save = machine.save();
-    if save.cells - save.first >= MANY_CELLS {
-        machine.go_back(Save {
-            mark: save.mark,
-            cells: save.first,
-            first: save.first,
-            path: save.path,
-            brought: save.brought,
-        });
-    }
-}
-
-/// Lets go of the goals that wait no longer, where no choice has a way left to which the search could go back.
-fn let_go<'a>(machine: &mut Machine<'a>, points: &Vec<ChoicePoint<'a>>)
-    requires { HasPoints machine.old points.now }
-    ensures position { position_of machine.new ≡ position_of machine.old }
-    ensures pending { pending_positions machine.new points.now
-        ≡ pending_positions machine.old points.now }
-    ensures points { HasPoints machine.new points.now }
-{
-    if points.as_slice().is_empty() {
-        let_go_cells(machine);
-    }
-}
-
-/// One turn of a search, as `turn_on`, which keeps of goals that wait no longer only those to which it can go
-/// back.
-fn lean_turn<'a>(
-    alloc: Global,
-    clauses: &'a [Predicate<'a>],
-    locals: &[Local],
-    paths: Paths,
-    machine: &mut Machine<'a>,
-    points: &mut Vec<ChoicePoint<'a>>,
-    outs: &mut Vec<Out>,
-) -> Result<bool, Memory>
-    requires clauses { AreClausesBelow (program_in clauses.now) }
-    requires locals { length locals.now < 2 ^ 64 }
-    requires points { HasPoints machine.old points.old }
-    ensures left { IfOk result (λ b. positions_with b machine.new points.new
-        ≡ positions_followed (turned (program_in clauses.now) (locals_of locals.now)
-        (position_of machine.old)) (pending_positions machine.old points.old)) }
-    ensures outs { OnOk result (outs_of outs.new.items
-        ≡ outs_of outs.old.items
-        ++ map (kept_out paths) (ended_outs (turned (program_in clauses.now)
-        (locals_of locals.now) (position_of machine.old)))) }
-    ensures points { OnOk result (HasPoints machine.new points.new) }
-{
-    let_go(machine, points);
-    turn_on(alloc, clauses, locals, paths, machine, points, outs)
-}
-
 /// One turn of a search, which adds the output with which it ends, so that fewer may be wanted; where
-/// it does not go on from there, the search resumes. It answers whether it goes on.
+/// it does not go on from there, the search resumes. It answers whether it goes on. Of goals that wait no
+/// longer it keeps only those to which it can go back.
 pub fn go_on<'a>(
     alloc: Global,
     clauses: &'a [Predicate<'a>],
@@ -270,9 +213,10 @@ pub fn go_on<'a>(
         (locals_of locals.now) (position_of machine.old)))) }
 {
     let before = outs.len();
-    let goes = lean_turn(alloc, clauses, locals, paths, machine, points, outs)?;
+    let goes = turn_on(alloc, clauses, locals, paths, machine, points, outs)?;
     *wanted = wanted_after(*wanted, &outs[before..]);
     if goes {
+        let_go(machine, points);
         Ok(true)
     } else {
         resume(alloc, machine, points)

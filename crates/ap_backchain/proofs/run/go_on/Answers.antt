@@ -1,4 +1,4 @@
-use Rattle.std.proofs.Common.{◌≡◌, ℕ, List, length, drop, arith, ap, ap₂, ◌∙◌, subst}
+use Rattle.std.proofs.Common.{◌≡◌, ℕ, List, ◌∷◌, length, drop, arith, ap, ap₂, ◌∙◌, subst, true≢false}
 use Rattle.std.specs.Prelude.{IfOk}
 use Rattle.ap_defs.specs.Answers.{outs_of}
 use Rattle.ap_defs.specs.Goals.{program_in}
@@ -12,8 +12,25 @@ use Rattle.ap_backchain.proofs.RunLemmas.{on_ok}
 use Rattle.ap_backchain.proofs.WantedLemmas.{rest_taken, wanted_since}
 use Rattle.ap_backchain.proofs.run.go_on.Goals as goal
 
+pub let_go-requires : goal.let_go-requires
+let_go-requires c = c.in_ok-goes.ensures.points
+
+pub resume-requires : goal.resume-requires
+resume-requires c = record { points = c.in_ok-goes.ensures.points }
+
 pub returns-then-goes-clause-left : goal.returns-then-goes-clause-left
-returns-then-goes-clause-left c = rw c.if-goes.true at c.in_ok-goes.ensures.left
+returns-then-goes-clause-left c =
+    ap₂ (λ (p : Position) (ps : List Position). p ∷ ps) c.let_go.ensures.position c.let_go.ensures.pending
+    ∙ (rw c.if-goes.true at c.in_ok-goes.ensures.left)
+
+pub returns-then-goes-clause-outs : goal.returns-then-goes-clause-outs
+returns-then-goes-clause-outs c = c.in_ok-goes.ensures.outs
+
+pub returns-then-goes-clause-points : goal.returns-then-goes-clause-points
+returns-then-goes-clause-points c = c.let_go.ensures.points
+
+pub returns-then-goes-clause-none : goal.returns-then-goes-clause-none
+returns-then-goes-clause-none c = λ e. absurd (true≢false e)
 
 pub returns-else-goes-clause-left : goal.returns-else-goes-clause-left
 returns-else-goes-clause-left c =
@@ -23,6 +40,12 @@ returns-else-goes-clause-left c =
 pub returns-else-goes-clause-outs : goal.returns-else-goes-clause-outs
 returns-else-goes-clause-outs c = on_ok c.resume.result c.in_ok-goes.ensures.outs
 
+pub returns-else-goes-clause-points : goal.returns-else-goes-clause-points
+returns-else-goes-clause-points c = c.resume.ensures.points
+
+pub returns-else-goes-clause-none : goal.returns-else-goes-clause-none
+returns-else-goes-clause-none c = c.resume.ensures.none
+
 -- the outputs that the turn added
 pub returns-then-goes-clause-wanted : goal.returns-then-goes-clause-wanted
 returns-then-goes-clause-wanted c =
@@ -30,7 +53,7 @@ returns-then-goes-clause-wanted c =
     c.wanted_after.ensures
     ∙ ap (λ (xs : List Out). wanted_after c.args.wanted.now (outs_of xs)) (rest_taken c.len-before.result c.deref.result.now)
     ∙ ap₂ (λ (n : ℕ) (xs : List Out). wanted_after c.args.wanted.now (outs_of (drop n xs))) before c.deref.ensures.value
-    ∙ wanted_since c.args.wanted.now c.args.paths c.args.outs.now.items c.lean_turn.new.outs.items
+    ∙ wanted_since c.args.wanted.now c.args.paths c.args.outs.now.items c.turn_on.new.outs.items
     (ended_outs (turned (program_in c.args.clauses.now) (locals_of c.args.locals.now) (position_of c.args.machine.now))) c.in_ok-goes.ensures.outs
 
 pub returns-else-goes-clause-wanted : goal.returns-else-goes-clause-wanted
@@ -40,5 +63,5 @@ returns-else-goes-clause-wanted c =
     (c.wanted_after.ensures
     ∙ ap (λ (xs : List Out). wanted_after c.args.wanted.now (outs_of xs)) (rest_taken c.len-before.result c.deref.result.now)
     ∙ ap₂ (λ (n : ℕ) (xs : List Out). wanted_after c.args.wanted.now (outs_of (drop n xs))) before c.deref.ensures.value
-    ∙ wanted_since c.args.wanted.now c.args.paths c.args.outs.now.items c.lean_turn.new.outs.items
+    ∙ wanted_since c.args.wanted.now c.args.paths c.args.outs.now.items c.turn_on.new.outs.items
     (ended_outs (turned (program_in c.args.clauses.now) (locals_of c.args.locals.now) (position_of c.args.machine.now))) c.in_ok-goes.ensures.outs)

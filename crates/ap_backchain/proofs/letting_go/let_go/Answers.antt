@@ -2,7 +2,7 @@ use Rattle.std.proofs.Common.{◌≡◌, ◌==◌, ℕ, [], true, length, sym, �
 use Rattle.std.proofs.lemmas.Bool.Decides.{nat_tests}
 use Rattle.std.proofs.lemmas.List.{nil_from_length}
 use Rattle.ap_backchain.proofs.RunLemmas.{no_points}
-use Rattle.ap_backchain.proofs.run.let_go.Goals as goal
+use Rattle.ap_backchain.proofs.letting_go.let_go.Goals as goal
 
 none : (n : ℕ) → (n == 0) ≡ true → n ≡ 0
 none n e = grind (arith, nat_tests)

@@ -1,6 +1,6 @@
 use Rattle.std.proofs.Common.{◌≡◌, ◌∙◌}
 use Rattle.ap_backchain.proofs.CutLemmas.{cut_within, cut_waiting, cut_position}
-use Rattle.ap_backchain.proofs.run.let_go_cells.Goals as goal
+use Rattle.ap_backchain.proofs.letting_go.let_go_cells.Goals as goal
 
 pub go_back-requires-clause-within : goal.go_back-requires-clause-within
 go_back-requires-clause-within c = cut_within c.save-save.result c.args.machine.now c.save-save.ensures.within c.save-save.ensures.track c.save-save.ensures.position
