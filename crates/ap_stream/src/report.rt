@@ -1,22 +1,51 @@
 //! The report on a query by one worker, and that of the runs which several give.
 
-ghost use Rattle.std.specs.Prelude.{◌≡◌, ◌-◌, Some, IfOk, map, slice_get};
+ghost use Rattle.std.specs.Prelude.{◌≡◌, ◌-◌, ℕ, [], Some, IfOk, OnOk, map, slice_get};
 ghost use Rattle.ap_defs.specs.Answers.{query_outs};
-ghost use Rattle.ap_defs.specs.Goals.{NominalQuery};
+ghost use Rattle.ap_defs.specs.Goals.{NominalQuery, program_of};
 ghost use Rattle.ap_defs.specs.Lines.{query_lines};
+ghost use Rattle.ap_defs.specs.Types.{locals_of};
 ghost use Rattle.ap_answers.specs.Words.{IsTaken};
 ghost use Rattle.ap_backchain.specs.Ends.{without_path};
 ghost use Rattle.ap_backchain.specs.Problems.{HasQuery, program_of_problem, queries_in};
 ghost use Rattle.ap_paths.specs.Limits.{part};
 ghost use Rattle.ap_paths.specs.Runs.{outs_of_runs};
+ghost use Rattle.ap_stream.specs.Builders.{report_with};
+ghost use Rattle.ap_stream.specs.Coming.{IsSearching, outs_to_come};
 
 use crate::builder::ReportBuilder;
 use crate::search::Search;
 use ap_answers::words::Taken;
 use ap_backchain::problem::{Problem, query_of_problem};
+use ap_defs::goals::{Local, Program};
 use ap_defs::memory::Memory;
+use ap_defs::terms::Term;
 use ap_paths::{Limit, Run};
 use std::alloc::Global;
+
+/// Adds the outputs that are to come to a report, each as it is found.
+fn push_outputs(
+    alloc: Global,
+    program: &Program<Term>,
+    taken: &Taken<'_>,
+    locals: &[Local],
+    search: &mut Search<'_>,
+    builder: &mut ReportBuilder,
+) -> Result<(), Memory>
+    requires words { IsTaken program.now.words taken.now }
+    requires searching { IsSearching search.old }
+    ensures { OnOk result ((query : ℕ) →
+        report_with (program_of program.now) query (locals_of locals.now) builder.new []
+        ≡ report_with (program_of program.now) query (locals_of locals.now) builder.old
+        (outs_to_come search.old)) }
+{
+    'searching: loop {
+        let Some(out) = search.next(alloc)? else {
+            return Ok(());
+        };
+        builder.push(alloc, program, taken, locals, &out)?;
+    }
+}
 
 /// The report on a query to a depth up to the last answer that is wanted, where the words of the text are
 /// known: each output is written as it is found, so that memory is that of the report and of one branch.
@@ -40,12 +69,11 @@ pub fn stream_report<'a>(
     let locals = query_of_problem(problem).locals.items();
     let mut search = Search::within(alloc, room.take(), problem, limit)?;
     let mut builder = ReportBuilder::new(alloc);
-    'searching: loop {
-        let Some(out) = search.next(alloc)? else {
-            *room = search.lent();
-            return builder.finish(alloc, problem.query);
-        };
-        builder.push(alloc, program, taken, locals, &out)?;
+    let pushed = push_outputs(alloc, program, taken, locals, &mut search, &mut builder);
+    *room = search.lent();
+    match pushed {
+        Ok(()) => builder.finish(alloc, problem.query),
+        Err(Memory) => Err(Memory),
     }
 }
 

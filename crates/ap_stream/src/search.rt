@@ -25,13 +25,25 @@ use std::alloc::Global;
 /// The search of a query on its way: the machine from which it goes on, the choices that have ways left,
 /// and what is still wanted, which is nothing once it is over. Its memory is that of the branch where it
 /// stands.
-#[derive(Drop)]
 pub struct Search<'a> {
     clauses: &'a [Predicate<'a>],
     locals: &'a [Local],
     machine: Machine<'a>,
     points: Vec<ChoicePoint<'a>>,
     wanted: Limit,
+}
+
+// Written out, so that it is not written out at each exit of what owns a search.
+impl Drop for Search<'_> {
+    fn drop(self) {
+        let Search {
+            clauses: _,
+            locals: _,
+            machine: _machine,
+            points: _points,
+            wanted: _,
+        } = self;
+    }
 }
 
 // The deepest search whose memory is kept for the next one.
@@ -136,9 +148,11 @@ impl<'a> Search<'a> {
         let clauses = clauses_of_problem(p);
         let query = query_of_problem(p);
         let Search {
+            clauses: _,
+            locals: _,
             machine,
             mut points,
-            ..
+            wanted: _,
         } = self;
         points.clear();
         let machine = machine_again(machine, p.depth, query)?;
