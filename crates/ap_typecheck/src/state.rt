@@ -1,11 +1,12 @@
 //! What the items so far made.
 ghost use Rattle.std.specs.Prelude.{◌≡◌, IfOk, map};
 ghost use Rattle.ap_defs.specs.RawTerms.{raw_of};
-ghost use Rattle.ap_defs.specs.Goals.{clause_over, program_over};
+ghost use Rattle.ap_defs.specs.Goals.{clause_over, program_over, query_over};
+ghost use Rattle.ap_defs.specs.Types.{signature_of};
 ghost use Rattle.ap_typecheck.specs.Declaring.{nothing_made, program_made};
 ghost use Rattle.ap_typecheck.specs.Views.{AreTablesKept, made_of};
 
-use ap_defs::goals::{Clause, Program, Query};
+use ap_defs::goals::{Clause, Program, Query, Signature};
 use ap_defs::lists::{List, Text};
 use ap_defs::memory::Memory;
 use ap_defs::terms::Raw;
@@ -15,12 +16,23 @@ use std::alloc::Global;
 
 /// What is declared, the data types that are inhabited by it, the clauses of each predicate, and the
 /// queries.
-#[derive(Drop)]
 pub struct State<'a> {
     pub declared: Declarations<'a>,
     pub inhabitants: Inhabitants,
     pub clauses: Vec<Vec<Clause<Raw>>>,
     pub queries: Vec<Query<Raw>>,
+}
+
+// Written out, so that it is not written out at each exit of what owns a state.
+impl Drop for State<'_> {
+    fn drop(self) {
+        let State {
+            declared: _declared,
+            inhabitants: _inhabitants,
+            clauses: _clauses,
+            queries: _queries,
+        } = self;
+    }
 }
 
 impl<'a> State<'a> {
@@ -35,6 +47,20 @@ impl<'a> State<'a> {
             clauses: Vec::new(alloc),
             queries: Vec::new(alloc),
         }
+    }
+
+    /// The program of a text that has these words.
+    pub fn into_program(self, alloc: Global, words: List<Text>) -> Result<Program<Raw>, Memory>
+        ensures { IfOk result (λ p. program_over raw_of p
+            ≡ program_made words (made_of self.entry)) }
+    {
+        let State {
+            declared,
+            inhabitants: _inhabitants,
+            clauses,
+            queries,
+        } = self;
+        program_of_parts(alloc, declared.signature, clauses, queries, words)
     }
 }
 
@@ -53,23 +79,25 @@ fn lists_of(
     Ok(List::of(lists))
 }
 
-/// The program of a text that has these words.
-pub fn program_from(
+/// The program of these, with lists in place of vectors.
+fn program_of_parts(
     alloc: Global,
-    state: State<'_>,
+    signature: Signature,
+    clauses: Vec<Vec<Clause<Raw>>>,
+    queries: Vec<Query<Raw>>,
     words: List<Text>,
 ) -> Result<Program<Raw>, Memory>
-    ensures { IfOk result (λ p. program_over raw_of p ≡ program_made words (made_of state.entry)) }
+    ensures { IfOk result (λ p. program_over raw_of p ≡ record {
+      signature = signature_of signature;
+      clauses = map (λ cs. map (clause_over raw_of) cs.items) clauses.items;
+      queries = map (query_over raw_of) queries.items;
+      words = words;
+    }) }
 {
-    let State {
-        declared,
-        clauses,
-        queries,
-        ..
-    } = state;
+    let clauses = lists_of(alloc, clauses)?;
     Ok(Program {
-        signature: declared.signature,
-        clauses: lists_of(alloc, clauses)?,
+        signature,
+        clauses,
         queries: List::of(queries),
         words,
     })

@@ -2,7 +2,7 @@
 
 use crate::error::{TypeError, text_error};
 use crate::items::check_item;
-use crate::state::{State, program_from};
+use crate::state::State;
 use ap_defs::faults::Place;
 use ap_defs::goals::Program;
 use ap_defs::memory::Memory;
@@ -13,12 +13,22 @@ use ap_trees::Item;
 use std::alloc::Global;
 
 /// What the items of a text so far make, and the words of the text.
-#[derive(Drop)]
 pub struct Typing<'a> {
     state: State<'a>,
     words: Words<'a>,
     /// How many items there were.
     items: u32,
+}
+
+// Written out, so that it is not written out at each exit of what owns a typing.
+impl Drop for Typing<'_> {
+    fn drop(self) {
+        let Typing {
+            state: _state,
+            words: _words,
+            items: _,
+        } = self;
+    }
 }
 
 impl<'a> Typing<'a> {
@@ -73,8 +83,12 @@ impl<'a> Typing<'a> {
         ensures { IfOk result (λ p. (is : List ItemOf) → IsTypingOf is self.entry →
             IsProgramOf is (program_over raw_of p)) }
     {
-        let Typing { state, words, .. } = self;
+        let Typing {
+            state,
+            words,
+            items: _,
+        } = self;
         let texts = words.texts(alloc)?;
-        program_from(alloc, state, texts)
+        state.into_program(alloc, texts)
     }
 }
