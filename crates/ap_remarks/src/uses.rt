@@ -68,9 +68,9 @@ fn begin_at(marks: &[Mark], place: usize) -> Begin {
 }
 
 impl<'t> Uses<'t> {
-    /// Those of a text.
-    pub(crate) fn of(alloc: Global, text: &'t str) -> Result<Uses<'t>, Memory> {
-        let mut uses = Uses {
+    /// Those of a text, of which nothing is noted yet.
+    pub(crate) fn new(alloc: Global, text: &'t str) -> Uses<'t> {
+        Uses {
             text,
             parts: Vec::new(alloc),
             calls: Vec::new(alloc),
@@ -80,10 +80,14 @@ impl<'t> Uses<'t> {
             arguments: Vec::new(alloc),
             latest: Vec::new(alloc),
             begins: Vec::new(alloc),
-        };
-        uses.add_items(alloc)?;
-        uses.arguments.sort_unstable();
-        Ok(uses)
+        }
+    }
+
+    /// Notes all of the text.
+    pub(crate) fn note_all(&mut self, alloc: Global) -> Result<(), Memory> {
+        self.add_items(alloc)?;
+        self.arguments.sort_unstable();
+        Ok(())
     }
 
     /// Adds the items of the text, each up to its `.`.

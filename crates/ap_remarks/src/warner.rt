@@ -234,11 +234,22 @@ impl<'t> Warner<'t> {
     }
 }
 
+/// The warnings about a text, whose uses are noted in what is lent.
+fn warnings_by<'t>(alloc: Global, text: &'t str, uses: &mut Uses<'t>) -> Result<String, Memory> {
+    uses.note_all(alloc)?;
+    let mut warner = Warner::of(alloc, text, &*uses)?;
+    let looked = warner.look_at_parts(alloc, &*uses);
+    let said = warner.into_text();
+    match looked {
+        Ok(()) => Ok(said),
+        Err(Memory) => Err(Memory),
+    }
+}
+
+/// The warnings about a text.
 fn warnings_of(alloc: Global, text: &str) -> Result<String, Memory> {
-    let uses = Uses::of(alloc, text)?;
-    let mut warner = Warner::of(alloc, text, &uses)?;
-    warner.look_at_parts(alloc, &uses)?;
-    Ok(warner.into_text())
+    let mut uses = Uses::new(alloc, text);
+    warnings_by(alloc, text, &mut uses)
 }
 
 /// The warnings about a text that has a program, as they are written: of variables that stand once in a clause, of
