@@ -10,9 +10,9 @@ pub returns-in-Ok-clause-only : goal.returns-in-Ok-clause-only
 returns-in-Ok-clause-only g c =
     let answer = run_report c.args.depth c.args.limit in
     let text = c.args.text.now in
-    IfOk-weaker c.report_restricted.result _ _
+    IfOk-weaker c.report_restricted-report.result _ _
     (λ r is s h. report_one answer text r s (answered_report answer text (program_of c.in-Ok.program) r c.in-Ok.ensures.program is) h)
-    c.report_restricted.ensures
+    c.report_restricted-report.ensures
 
 pub returns-in-Err-Fault-clause-only : goal.returns-in-Err-Fault-clause-only
 returns-in-Err-Fault-clause-only g c =
