@@ -11,8 +11,9 @@ use std::sync::Wait;
 use std::thread::{Builder, Threads};
 use std::{io, thread};
 
-// The stack of the thread that does the work. A term may be nested as deep as its text is long, and
-// a walk down it, or its drop, takes a frame a level. Memory is taken only for what is used of it.
+// The stack of the thread that does the work. The terms of a stated instance, or of a proof that is covered,
+// may be as deep as a search goes, and a walk down their left parts takes a frame a level. Memory is taken
+// only for what is used of it.
 const STACK: usize = 1 << 30;
 
 /// The word that names the command.

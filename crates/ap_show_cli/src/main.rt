@@ -18,8 +18,8 @@ use std::thread::{Builder, Threads};
 use std::{env, io, thread};
 use words::format_asked;
 
-// The stack of the thread that does the work. A term may be nested as deep as its bundle is long, and a
-// walk down it takes a frame a level. Memory is taken only for what is used of it.
+// The stack of the thread that does the work. A text may be nested 256 deep, and reading takes some
+// frames a level. Memory is taken only for what is used of it.
 const STACK: usize = 1 << 30;
 
 /// The words after the program's name. Where one isn't UTF-8 there are none, which is refused too.

@@ -1,7 +1,7 @@
 use denote.Param.Send.{sendable}
 use Rattle.std.proofs.Crossing.{crosses, send as heap_send, sync as heap_sync}
 use Rattle.ap_tools.proofs.SeatSent.{seat_send, shared_sync}
-use Rattle.ap_worker_tests.proofs.lock.run_all.Goals as goal
+use Rattle.ap_tests.proofs.lock.run_all.Goals as goal
 
 pub map_vec-requires-send-J : goal.map_vec-requires-send-J
 map_vec-requires-send-J g c κs within = search (sendable, seat_send)
