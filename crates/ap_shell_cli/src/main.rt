@@ -20,8 +20,8 @@ use std::time::Clock;
 use std::{env, io, thread};
 use talk::converse;
 
-// The stack of the thread that does the work. The terms of a stated instance may be as deep as a search goes, and a walk down their left parts takes a frame a level. Memory is taken
-// only for what is used of it.
+// The stack of the thread that does the work. The terms of a stated instance may be as deep as a search goes,
+// and a walk down their left parts takes a frame a level. Memory is taken only for what is used of it.
 const STACK: usize = 1 << 30;
 
 const USAGE: &str = "usage: alphaprolog-shell [FILE..]
