@@ -17,4 +17,5 @@ pub mod Findings
 pub mod SolvedLemmas
 pub mod ReadLemmas
 pub mod PlaceLemmas
+pub mod SortLemmas
 pub mod InhabitedLemmas

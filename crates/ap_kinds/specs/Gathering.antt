@@ -27,6 +27,7 @@ pub data Wanting : Type 0 where
 abbrev pub wanting_of : Wanted → Wanting
 wanting_of (code.Whole s) = whole (shape_of s)
 wanting_of (code.Type t) = typed (type_of t.now)
+wanting_of (code.ListOfHole x) = whole (list (hole x))
 wanting_of (code.ListOf t) = typed (types.list (type_of t.now))
 wanting_of code.Nothing = nothing
 wanting_of (code.More t ts) = more (type_of t.now) (map type_of ts.now)

@@ -1,5 +1,5 @@
 -- An item whose names have the sorts of their kinds.
-use Rattle.std.specs.Prelude.{ℕ, List, map, Option, Some}
+use Rattle.std.specs.Prelude.{◌≡◌, ℕ, List, map, Option, Some}
 use Rattle.ap_defs.specs.declared.terms.Name.{Name}
 use Rattle.ap_defs.specs.declared.terms.Id.{Id}
 use Rattle.ap_defs.specs.declared.terms.Id.TheVariants as ids
@@ -13,6 +13,10 @@ use Rattle.ap_defs.specs.Answers.{kind_at}
 abbrev pub sort_in : Option NominalKind → ℕ → ℕ
 sort_in (Some (types.name s)) sort = s
 sort_in _ sort = sort
+
+-- no kind is one of a name, so that each sort stays
+abbrev pub KeepSorts : List NominalKind → Type 0
+KeepSorts ks = (n sort : ℕ) → sort_in (kind_at ks n) sort ≡ sort
 
 abbrev pub name_with_sort : List NominalKind → Name → Name
 name_with_sort ks a = record { sort = sort_in (kind_at ks a.num) a.sort; num = a.num }

@@ -59,6 +59,7 @@ fn cell_wanted<'a>(want: &Wanted<'a>) -> Option<Wanted<'a>>
     ensures { option_map wanting_of result ≡ cell_wanted (wanting_of want.now) }
 {
     match want {
+        Wanted::ListOfHole(x) => Some(Wanted::Cell(*x)),
         Wanted::ListOf(t) => Some(Wanted::TypeCell(*t)),
         Wanted::Type(t) => type_cell(*t),
         Wanted::Whole(shape) => hole_cell(shape),

@@ -4,13 +4,13 @@
 //! it is turned round as it is gone: each part on it has what is above it in place of what is below, and
 //! the way back puts that in its place again.
 
-ghost use Rattle.std.specs.Prelude.{◌≡◌, ◌<◌, map, true, false, IfOk, OnOk, MatchOption, Some, None};
+ghost use Rattle.std.specs.Prelude.{◌≡◌, ◌<◌, ℕ, map, true, false, IfOk, OnOk, MatchOption, Some, None};
 ghost use Rattle.ap_defs.specs.RawTerms.{raw_of};
 ghost use Rattle.ap_defs.specs.Types.{kind_of};
 ghost use Rattle.ap_defs.specs.Answers.{kind_at};
 ghost use Rattle.ap_defs.specs.Goals.{goal_over};
 ghost use Rattle.ap_kinds.specs.Turned.{turned_back, goal_turned_back, part_count, goal_count};
-ghost use Rattle.ap_kinds.specs.Sorts.{name_with_sort, id_with_sort, with_sorts, terms_with_sorts, goal_with_sorts};
+ghost use Rattle.ap_kinds.specs.Sorts.{sort_in, KeepSorts, name_with_sort, id_with_sort, with_sorts, terms_with_sorts, goal_with_sorts};
 
 use ap_defs::goals::{Goal, Kind};
 use ap_defs::lists::List;
@@ -30,6 +30,28 @@ fn kind_at(kinds: &[Kind], number: u64) -> Option<&Kind>
         return None;
     }
     Some(&kinds[place])
+}
+
+/// Whether it is the kind of a name.
+fn is_of_name(kind: &Kind) -> bool
+    ensures { result ≡ false → (sort : ℕ) → sort_in (Some (kind_of kind.now)) sort ≡ sort }
+{
+    match kind {
+        Kind::Name(_) => true,
+        Kind::Var(_) => false,
+    }
+}
+
+/// Whether one of the kinds is that of a name. Where none is, nothing gets another sort.
+fn has_names(kinds: &[Kind]) -> bool
+    ensures { result ≡ false → KeepSorts (map kind_of kinds.now) }
+{
+    for kind in kinds {
+        if is_of_name(kind) {
+            return true;
+        }
+    }
+    false
 }
 
 /// A name with the sort of its kind, if its number is that of a name.
@@ -146,6 +168,17 @@ pub fn terms_with_sorts(
     ensures { IfOk result (λ ts. map raw_of ts
         ≡ terms_with_sorts (map kind_of kinds.now) (map raw_of terms)) }
 {
+    if !has_names(kinds) {
+        return Ok(terms);
+    }
+    each_with_sorts(alloc, kinds, terms)
+}
+
+/// Terms whose names have the sorts of their kinds, each gone through.
+fn each_with_sorts(alloc: Global, kinds: &[Kind], terms: List<Raw>) -> Result<List<Raw>, Memory>
+    ensures { IfOk result (λ ts. map raw_of ts
+        ≡ terms_with_sorts (map kind_of kinds.now) (map raw_of terms)) }
+{
     let terms = terms.into_vec();
     let mut sorted = Vec::with_capacity(alloc, terms.len())?;
     for t in terms {
@@ -160,7 +193,7 @@ fn sort_terms(alloc: Global, kinds: &[Kind], terms: &mut List<Raw>) -> Result<()
         ≡ terms_with_sorts (map kind_of kinds.now) (map raw_of terms.old)) }
 {
     let found = mem::replace(terms, List::of(Vec::new(alloc)));
-    *terms = terms_with_sorts(alloc, kinds, found)?;
+    *terms = each_with_sorts(alloc, kinds, found)?;
     Ok(())
 }
 
@@ -258,10 +291,14 @@ fn sort_goal(alloc: Global, kinds: &[Kind], goal: &mut Goal<Raw>) -> Result<(), 
 ///
 /// Each name whose number is that of a name among the kinds has its sort, and all else stays. `Err` is
 /// want of memory.
+#[tactic(auto, using(crate::proofs::SortLemmas::goal_keeps))]
 pub fn goal_with_sorts(alloc: Global, kinds: &[Kind], goal: Goal<Raw>) -> Result<Goal<Raw>, Memory>
     ensures { IfOk result (λ g. goal_over raw_of g
         ≡ goal_with_sorts (map kind_of kinds.now) (goal_over raw_of goal)) }
 {
+    if !has_names(kinds) {
+        return Ok(goal);
+    }
     let mut sorted = goal;
     sort_goal(alloc, kinds, &mut sorted)?;
     Ok(sorted)

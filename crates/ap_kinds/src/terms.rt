@@ -11,7 +11,9 @@ use crate::kinds::IdentKind;
 use crate::places::{name_place, one_sort};
 use crate::shapes::opened;
 use crate::systems::{System, equate, new_hole, refuse};
-use crate::wants::{Wanted, list_of, meet_name, meet_swapped, meet_unit, meet_var, wanted_all};
+use crate::wants::{
+    Wanted, list_of, list_of_hole, meet_name, meet_swapped, meet_unit, meet_var, wanted_all,
+};
 use ap_defs::goals::Constructor;
 use ap_defs::memory::Memory;
 use ap_defs::terms::{Id, Raw, Shape, Ty, Under, take_pair};
@@ -94,6 +96,7 @@ fn pair_sides<'a>(alloc: Global, want: Wanted<'a>, system: &mut System) -> Resul
     match want {
         Wanted::Whole(shape) => sides_of_shape(alloc, shape, system),
         Wanted::Type(t) => sides_of_type(alloc, t, system),
+        Wanted::ListOfHole(x) => new_sides(alloc, list_of_hole(alloc, x)?, system),
         Wanted::ListOf(t) => new_sides(alloc, list_of(alloc, t)?, system),
         Wanted::Nothing => {
             refuse(system)?;
@@ -106,13 +109,10 @@ fn pair_sides<'a>(alloc: Global, want: Wanted<'a>, system: &mut System) -> Resul
             left: Wanted::Type(t),
             right: wanted_all(rest),
         }),
-        Wanted::Cell(x) => {
-            let list = Shape::List(Box::new(alloc, Shape::Hole(x))?);
-            Ok(Sides {
-                left: Wanted::Whole(Shape::Hole(x)),
-                right: Wanted::Whole(list),
-            })
-        }
+        Wanted::Cell(x) => Ok(Sides {
+            left: Wanted::Whole(Shape::Hole(x)),
+            right: Wanted::ListOfHole(x),
+        }),
         Wanted::TypeCell(t) => Ok(Sides {
             left: Wanted::Type(t),
             right: Wanted::ListOf(t),

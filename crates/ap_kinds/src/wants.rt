@@ -1,7 +1,7 @@
 //! What is wanted of a term, and terms that stand there.
 
 ghost use Rattle.std.specs.Prelude.{◌≡◌, map, IfOk, OnOk};
-ghost use Rattle.ap_defs.specs.Types.{shape_of, type_of, list};
+ghost use Rattle.ap_defs.specs.Types.{shape_of, type_of, hole, list};
 ghost use Rattle.ap_kinds.specs.Systems.{system_of, shape_of_type};
 ghost use Rattle.ap_kinds.specs.Gathering.{wanting_of, wanting_all, is_same, equate_others, meet, meet_unit, meet_swapped, meet_name, meet_var};
 
@@ -12,13 +12,14 @@ use ap_defs::memory::Memory;
 use ap_defs::terms::{Shape, Ty};
 use std::alloc::Global;
 
-/// What is wanted of a term: a shape; a type; a list of a type; nothing, as of a constructor without
-/// arguments; an argument of a type and those of the rest; or the parts of a list cell, whose elements have
-/// the type of a hole, or a type.
+/// What is wanted of a term: a shape; a type; a list of the type of a hole, or of a type; nothing, as of a
+/// constructor without arguments; an argument of a type and those of the rest; or the parts of a list cell, whose
+/// elements have the type of a hole, or a type. The tail of each cell is such a list, so it takes no box.
 #[derive(Drop)]
 pub(crate) enum Wanted<'a> {
     Whole(Shape),
     Type(&'a Ty),
+    ListOfHole(u64),
     ListOf(&'a Ty),
     Nothing,
     More(&'a Ty, &'a [Ty]),
@@ -32,6 +33,13 @@ pub(crate) fn list_of(alloc: Global, t: &Ty) -> Result<Shape, Memory>
 {
     let element = opened(alloc, t)?;
     Ok(Shape::List(Box::new(alloc, element)?))
+}
+
+/// A list of the type of a hole, as a shape.
+pub(crate) fn list_of_hole(alloc: Global, x: u64) -> Result<Shape, Memory>
+    ensures { IfOk result (λ s. shape_of s ≡ list (hole x)) }
+{
+    Ok(Shape::List(Box::new(alloc, Shape::Hole(x))?))
 }
 
 /// What is wanted of the arguments of a constructor.
@@ -122,6 +130,10 @@ pub(crate) fn meet(
     match want {
         Wanted::Whole(wanted) => equate_others(wanted, shape, system),
         Wanted::Type(t) => meet_type(alloc, t, shape, system),
+        Wanted::ListOfHole(x) => {
+            let wanted = list_of_hole(alloc, x)?;
+            equate(system, wanted, shape)
+        }
         Wanted::ListOf(t) => {
             let wanted = list_of(alloc, t)?;
             equate(system, wanted, shape)
@@ -147,7 +159,7 @@ pub(crate) fn meet_swapped(want: &Wanted<'_>, system: &mut System) -> Result<(),
         ≡ meet_swapped (wanting_of want.now) (system_of system.old)) }
 {
     match want {
-        Wanted::Whole(_) | Wanted::Type(_) | Wanted::ListOf(_) => Ok(()),
+        Wanted::Whole(_) | Wanted::Type(_) | Wanted::ListOfHole(_) | Wanted::ListOf(_) => Ok(()),
         _ => refuse(system),
     }
 }

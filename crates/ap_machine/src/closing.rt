@@ -1,9 +1,9 @@
 //! Terms with all bindings carried out, in which the list of each suspension is canonical.
 
-ghost use Rattle.std.specs.Prelude.{◌≡◌, ◌≤◌, ◌<◌, ◌+◌, ◌*◌, [], true, IfOk, OnOk};
+ghost use Rattle.std.specs.Prelude.{◌≡◌, ◌≤◌, ◌<◌, ◌+◌, ◌*◌, [], true, IfOk, IfSome, OnOk};
 ghost use Rattle.ap_defs.specs.Canonical.{canonical, canonical_term};
 ghost use Rattle.ap_defs.specs.Substitution.{under};
-ghost use Rattle.ap_defs.specs.Terms.{NominalTerm, app, pair, term_of, unit};
+ghost use Rattle.ap_defs.specs.Terms.{NominalTerm, app, pair, susp, term_of, unit};
 ghost use Rattle.ap_defs.specs.Unification.{size};
 ghost use Rattle.ap_perm.specs.Closures.{closure_term, lent_term};
 ghost use Rattle.ap_store.specs.Heads.{IsHeadUnbound};
@@ -14,7 +14,7 @@ ghost use Rattle.ap_machine.specs.Closed.{closed_part, closed_round, closed_with
 
 use ap_defs::lists::Swaps;
 use ap_defs::memory::Memory;
-use ap_defs::terms::{Swap, Term};
+use ap_defs::terms::{Swap, Term, Var};
 use ap_perm::closures::{Closure, Lent, Opened};
 use ap_perm::joining::copied;
 use ap_perm::swappings::canonical_list;
@@ -125,6 +125,104 @@ fn keep_right<'a>(
     Ok(())
 }
 
+/// Keeps what stands left of the part that is made next, in a round with the constructor of which the pair of
+/// both is the argument, if it is one.
+#[tactic(auto, using(crate::proofs::ClosedLemmas::closed_within_last, crate::proofs::ClosedLemmas::rounds_work_last))]
+fn keep_left(alloc: Global, rounds: &mut Vec<Round<'_>>, left: Term) -> Result<(), Memory>
+    ensures same { OnOk result ((s : Store) (t : NominalTerm) → closed_within s rounds.new.items t
+        ≡ closed_within s rounds.old.items (pair (term_of left) t)) }
+    ensures work { OnOk result ((s : Store) → rounds_work s rounds.new.items
+        ≤ rounds_work s rounds.old.items + 1) }
+{
+    let made = Box::new(alloc, left)?;
+    match rounds.pop() {
+        None => rounds.push(Round::RightOf(made))?,
+        Some(Round::App(f)) => rounds.push(Round::RightIn(f, made))?,
+        Some(round) => {
+            rounds.push(round)?;
+            rounds.push(Round::RightOf(made))?;
+        }
+    }
+    Ok(())
+}
+
+/// A variable that is bound to nothing, or none where it is bound.
+fn unbound(store: &Store<'_>, none: &Swaps, x: Var) -> Result<Option<Term>, Memory>
+    requires { none.now ≡ [] }
+    ensures { IfOk result (λ o. IfSome o (λ t.
+        term_of t ≡ canonical_term (under (bindings_of store.now) (susp [] x)))) }
+{
+    match store.binding(x) {
+        None => Ok(Some(Term::Susp(none.share()?, x))),
+        Some(_) => Ok(None),
+    }
+}
+
+/// What a closure stands for, if that is seen at once: a constant, or a variable on which nothing waits and that is
+/// bound to nothing.
+fn leaf_of(
+    alloc: Global,
+    store: &Store<'_>,
+    none: &Swaps,
+    c: &Closure<'_>,
+) -> Result<Option<Term>, Memory>
+    requires { none.now ≡ [] }
+    ensures { IfOk result (λ o. IfSome o (λ t.
+        term_of t ≡ canonical_term (meaning_in store.now c.now))) }
+{
+    let _end = c.end;
+    match c.term {
+        Term::App(f, argument) => {
+            if is_unit(argument) {
+                let made = constant(alloc, *f)?;
+                return Ok(Some(made));
+            }
+            Ok(None)
+        }
+        Term::Susp(own, x) => {
+            if !c.swaps.is_empty() || !own.items().is_empty() {
+                return Ok(None);
+            }
+            let var = Var {
+                num: c.base + x.num,
+            };
+            unbound(store, none, var)
+        }
+        _ => Ok(None),
+    }
+}
+
+/// Goes into a pair: its left part comes next, unless it is made at once.
+fn go_in_pair<'a>(
+    alloc: Global,
+    store: &Store<'a>,
+    none: &Swaps,
+    rounds: &mut Vec<Round<'a>>,
+    left: Closure<'a>,
+    right: Closure<'a>,
+) -> Result<Part<'a>, Memory>
+    requires { none.now ≡ [] }
+    ensures same { IfOk result (λ p.
+        closed_within store.now rounds.new.items (closed_part store.now p)
+        ≡ closed_within store.now rounds.old.items (canonical_term
+        (pair (meaning_in store.now left.entry) (meaning_in store.now right.entry)))) }
+    ensures less { IfOk result (λ p.
+        rounds_work store.now rounds.new.items + part_work store.now p
+        < rounds_work store.now rounds.old.items + 3
+        * size (pair (meaning_in store.now left.entry) (meaning_in store.now right.entry))) }
+{
+    match leaf_of(alloc, store, none, &left)? {
+        Some(made) => {
+            keep_left(alloc, rounds, made)?;
+            Ok(Part::Left(right))
+        }
+        None => {
+            keep_right(alloc, rounds, right)?;
+            Ok(Part::Left(left))
+        }
+    }
+}
+
 /// Goes into a part that is still to be made: what stands round the next one is kept, unless this one
 /// has no parts.
 fn go_in<'a>(
@@ -151,10 +249,7 @@ fn go_in<'a>(
             let waiting = waiting_of(alloc, none, swaps)?;
             Ok(Part::Made(Term::Susp(waiting, x)))
         }
-        Opened::Pair(left, right) => {
-            keep_right(alloc, rounds, right)?;
-            Ok(Part::Left(left))
-        }
+        Opened::Pair(left, right) => go_in_pair(alloc, store, none, rounds, left, right),
         Opened::App(f, argument) => {
             if is_unit(argument.term) {
                 let made = constant(alloc, f)?;

@@ -1,4 +1,5 @@
-use Rattle.std.proofs.Common.{◌≡◌, ◌*◌, sym, ap, ◌∙◌, subst, arith}
+use Rattle.std.proofs.Common.{◌≡◌, ◌<◌, ◌+◌, ◌*◌, sym, ap, ◌∙◌, subst, arith}
+use Rattle.std.specs.Prelude.{IfOk}
 use Rattle.ap_defs.specs.Canonical.{canonical_term}
 use Rattle.ap_defs.specs.Substitution.{under}
 use Rattle.ap_defs.specs.Renaming.{rename_term}
@@ -8,8 +9,8 @@ use Rattle.ap_perm.specs.Closures.{closure_term, opened_term}
 use Rattle.ap_store.proofs.WalkLemmas.{head_stays}
 use Rattle.ap_store.specs.Heads.{IsHeadUnbound}
 use Rattle.ap_store.specs.Views.{bindings_of, meaning_in}
-use Rattle.ap_machine.proofs.ClosedLemmas.{abs_work, app_work, pair_work, round_goes_in, work_goes_in}
-use Rattle.ap_machine.specs.Closed.{closed_within}
+use Rattle.ap_machine.proofs.ClosedLemmas.{abs_work, app_work, round_goes_in, work_goes_in}
+use Rattle.ap_machine.specs.Closed.{closed_part, closed_within, part_work, rounds_work}
 use Rattle.ap_machine.specs.declared.closing.Round.TheVariants as rounds
 use Rattle.ap_machine.proofs.closing.go_in.Goals as goal
 
@@ -31,21 +32,21 @@ returns-in_ok-waiting-in-Susp-clause-less c =
     let all : size (meaning_in s c.args.c) ≡ 1 = ap size (sym c.in_ok-head.ensures.term ∙ ap (under bs) opened ∙ waits) in
     omega (arith, all)
 
-pub returns-in_ok-keep_right-in-Pair-clause-same : goal.returns-in_ok-keep_right-in-Pair-clause-same
-returns-in_ok-keep_right-in-Pair-clause-same c =
+pub returns-in-Pair-clause-same : goal.returns-in-Pair-clause-same
+returns-in-Pair-clause-same c =
     let s = c.args.store.now in
     let all : meaning_in s c.args.c ≡ pair (meaning_in s c.in-Pair.left) (meaning_in s c.in-Pair.right) =
     sym c.in_ok-head.ensures.term ∙ ap (under (bindings_of s)) (sym c.in_ok-open.ensures ∙ ap opened_term c.in-Pair.is) in
-    c.in_ok-keep_right-in-Pair.ensures.same s (canonical_term (meaning_in s c.in-Pair.left)) ∙ ap (closed_within s c.args.rounds.now.items) (sym (ap canonical_term all))
+    subst (λ (u : NominalTerm). IfOk c.go_in_pair.result (λ p. closed_within s c.go_in_pair.new.rounds.items (closed_part s p) ≡ closed_within s c.args.rounds.now.items (canonical_term u)))
+    (sym all) c.go_in_pair.ensures.same
 
-pub returns-in_ok-keep_right-in-Pair-clause-less : goal.returns-in_ok-keep_right-in-Pair-clause-less
-returns-in_ok-keep_right-in-Pair-clause-less c =
+pub returns-in-Pair-clause-less : goal.returns-in-Pair-clause-less
+returns-in-Pair-clause-less c =
     let s = c.args.store.now in
     let all : meaning_in s c.args.c ≡ pair (meaning_in s c.in-Pair.left) (meaning_in s c.in-Pair.right) =
     sym c.in_ok-head.ensures.term ∙ ap (under (bindings_of s)) (sym c.in_ok-open.ensures ∙ ap opened_term c.in-Pair.is) in
-    let kept = c.in_ok-keep_right-in-Pair.ensures.work s in
-    let less = pair_work (meaning_in s c.args.c) (meaning_in s c.in-Pair.left) (meaning_in s c.in-Pair.right) all in
-    omega (arith, kept, less)
+    subst (λ (u : NominalTerm). IfOk c.go_in_pair.result (λ p. rounds_work s c.go_in_pair.new.rounds.items + part_work s p < rounds_work s c.args.rounds.now.items + 3 * size u))
+    (sym all) c.go_in_pair.ensures.less
 
 pub returns-in_ok-push-in-App-clause-same : goal.returns-in_ok-push-in-App-clause-same
 returns-in_ok-push-in-App-clause-same c =
