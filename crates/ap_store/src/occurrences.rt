@@ -279,8 +279,9 @@ fn is_constant(t: &Term) -> bool
 }
 
 impl<'a> Store<'a> {
-    /// Whether a variable occurs in what a closure stands for under the bindings. It looks no further than at a
-    /// constant, or where the variable is new, and takes memory where a left part of a pair is looked through alone.
+    /// Whether a variable occurs in what a closure stands for under the bindings. A constant has no variables, and a
+    /// new variable stands nowhere: then it looks no further. It takes memory where a left part of a pair is looked
+    /// through alone.
     #[inline(always)]
     pub fn occurs(&self, alloc: Global, x: Var, c: &Closure<'a>) -> Result<Occurrence, Memory>
         ensures found { IfOk result (λ o. does_occur o ≡ occurs x (meaning_in self.now c.now)) }

@@ -1,35 +1,22 @@
--- Equations of parts on which swappings wait, and how the step for one goes on, where another one may wait behind it.
-use Rattle.std.proofs.Common.{◌≡◌, ◌<◌, ℕ, true, false, List, [], ◌∷◌, ◌++◌, map, reverse, subst, sym, ap, ap₂, ◌∙◌}
+-- Equations of parts on which swappings wait.
+use Rattle.std.proofs.Common.{◌≡◌, ◌<◌, ℕ, true, false, List, [], ◌∷◌, ◌++◌, subst, sym, ap, ◌∙◌}
 use Rattle.std.proofs.lemmas.List.{append-nil}
-use Rattle.std.specs.Prelude.{Option, Some, if◌then◌else◌}
+use Rattle.std.specs.Prelude.{if◌then◌else◌}
 use Rattle.ap_defs.specs.Permutations.{inverse}
 use Rattle.ap_defs.specs.Renaming.{AreSwapsBelow, IsBelow, rename_term}
-use Rattle.ap_defs.specs.Substitution.{Binding, Equation, occurs, under, ◌≐◌}
+use Rattle.ap_defs.specs.Substitution.{Binding, occurs, under}
 use Rattle.ap_defs.specs.Terms.{NominalTerm, abs, act_term, app, name, pair, susp, term_of, unit}
-use Rattle.ap_defs.specs.Unification.{Progress, Rule, apply_rule, bind, clash, failed, next, rule, step, unless_occurs}
+use Rattle.ap_defs.specs.Unification.{bind, clash, rule, unless_occurs}
 use Rattle.ap_defs.specs.declared.terms.Swap.{Swap}
 use Rattle.ap_defs.specs.declared.terms.Term.{Term}
 use Rattle.ap_defs.specs.declared.terms.Term.TheVariants as code
 use Rattle.ap_defs.specs.declared.terms.Var.{Var}
-use Rattle.ap_equations.specs.Plain.{plain_term}
-use Rattle.ap_equations.specs.declared.plain.PlainPair.{PlainPair}
-use Rattle.ap_perm.specs.Closures.{closure_term}
 use Rattle.ap_rules.proofs.SuspensionLemmas.{form_under, head_var_stays, rule_binds_left, rule_binds_right}
-use Rattle.ap_rules.proofs.WorkLemmas.{pairs_below-append, put_last}
-use Rattle.ap_rules.specs.Runs.{equation_under, problem_under, stage_under}
-use Rattle.ap_rules.specs.Work.{ArePairsBelow, IsPairBelow, equations_left, pair_equation, problem_for, problems_met}
-use Rattle.ap_rules.specs.declared.pairs.ClosurePair.{ClosurePair}
-use Rattle.ap_rules.specs.declared.pairs.Work.{Work}
 use Rattle.ap_search.proofs.NumberLemmas.{act_below}
 use Rattle.ap_store.specs.Heads.{HasForm, IsHeadUnbound}
 use Rattle.ap_theory.proofs.SubstitutionLemmas.{under_act}
 use Rattle.ap_theory.specs.Variables.{IsUnbound}
-use Rattle.ap_unify.specs.Moved.{IsMovedRule, moved_equation, moved_rule, moved_stage, moved_waiting}
 use Rattle.ap_unify.specs.Parts.{HasVariable}
-use Rattle.ap_unify.specs.declared.moved.Sides.{Sides}
-use Rattle.ap_unify.specs.declared.parts.Ahead.{Ahead}
-use Rattle.ap_unify.specs.declared.parts.Turn.{Turn}
-use Rattle.ap_unify.specs.declared.parts.Turn.TheVariants as turns
 
 -- swappings that wait on a suspension, and those of the suspension
 module _ (n : ℕ) where
@@ -98,47 +85,3 @@ clash_where_occurs x t u e = ap (λ v. if v then clash else bind x u) e
 
 pub bind_where_absent : (x : Var) (t u : NominalTerm) → occurs x t ≡ false → unless_occurs x t u ≡ bind x u
 bind_where_absent x t u e = ap (λ v. if v then clash else bind x u) e
-
--- an equation of closures is put in front
-module _ (es fs : List ClosurePair) (e : ClosurePair) (q : Equation) (i : pair_equation e ≡ q) (h : fs ≡ es ++ e ∷ []) where
-  pub put_first : map pair_equation (reverse fs) ≡ q ∷ map pair_equation (reverse es)
-  put_first = ap (λ gs. map pair_equation (reverse gs)) h ∙ put_last es e ∙ ap (λ r. r ∷ map pair_equation (reverse es)) i
-
-  pub put_first_below : (n : ℕ) → IsPairBelow n e → ArePairsBelow n es → ArePairsBelow n fs
-  put_first_below n k m = subst (ArePairsBelow n) (sym h) (pairs_below-append n es (e ∷ []) m (k, tt))
-
-module _ (s r : List Binding) (m : Sides) (pair : PlainPair) (o : Option PlainPair) (w v : Work) (e : v.equations.items ≡ w.equations.items) (f : v.problems.items ≡ w.problems.items) where
-  abbrev moved_step : Progress
-  moved_step = step (moved_stage s m pair o w)
-
-  behind_same : step (stage_under s (moved_equation m pair ∷ (moved_waiting m o ++ equations_left v)) (problems_met v)) ≡ moved_step
-  behind_same = ap₂ (λ es ps. step (stage_under s (moved_equation m pair ∷ (moved_waiting m o ++ map pair_equation (reverse es))) (map problem_for ps))) e f
-
-  module _ (ahead : Ahead) (turn : Turn) (h : IsMovedRule m turn ahead s r (moved_rule s m pair)) where
-    turned_so : (t : Turn) → turn ≡ t → IsMovedRule m t ahead s r (moved_rule s m pair)
-    turned_so t k = subst (λ x. IsMovedRule m x ahead s r (moved_rule s m pair)) k h
-
-    pub moved_clash : turn ≡ turns.Clash → failed ≡ moved_step
-    moved_clash k = turned_so turns.Clash k (moved_waiting m o ++ equations_left v) (problems_met v) ∙ behind_same
-
-    pub moved_done : turn ≡ turns.Done → next (stage_under r (moved_waiting m o ++ equations_left v) (problems_met v)) ≡ moved_step
-    moved_done k = turned_so turns.Done k (moved_waiting m o ++ equations_left v) (problems_met v) ∙ behind_same
-
-    pub moved_on : turn ≡ turns.On → next (moved_stage r m ahead.next o v) ≡ moved_step
-    moved_on k = turned_so turns.On k (moved_waiting m o ++ equations_left v) (problems_met v) ∙ behind_same
-
-    -- once the one that waits is put to the others
-    module _ (u : Work) (g : equations_left u ≡ moved_waiting m o ++ equations_left v) (i : u.problems.items ≡ v.problems.items) where
-      pub moved_both : turn ≡ turns.Both → next (moved_stage r m ahead.next (Some ahead.later) u) ≡ moved_step
-      moved_both k =
-          ap₂ (λ es ps. next (stage_under r (moved_equation m ahead.next ∷ moved_equation m ahead.later ∷ es) (map problem_for ps))) g i
-          ∙ turned_so turns.Both k (moved_waiting m o ++ equations_left v) (problems_met v) ∙ behind_same
-
-      pub moved_other : turn ≡ turns.Other → step (stage_under r (moved_equation m ahead.next ∷ equations_left u) (problems_met u)) ≡ moved_step
-      moved_other k =
-          let es = map (equation_under s) (moved_waiting m o ++ equations_left v) in
-          let ps = map (problem_under s) (problems_met v) in
-          let d = turned_so turns.Other k in
-          ap₂ (λ ds qs. step (stage_under r (moved_equation m ahead.next ∷ ds) (map problem_for qs))) g i
-          ∙ ap (λ b. step (stage_under b (moved_equation m ahead.next ∷ (moved_waiting m o ++ equations_left v)) (problems_met v))) d.0
-          ∙ ap (λ q. apply_rule q es ps s) d.1 ∙ behind_same

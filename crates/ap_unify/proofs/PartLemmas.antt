@@ -1,10 +1,10 @@
 -- The rules for parts of terms on which no swappings wait.
-use Rattle.std.proofs.Common.{◌≡◌, ◌<◌, ◌≤◌, ℕ, Bool, true, false, true≢false, List, [], ◌∷◌, ◌++◌, length, map, refl, reverse, sym, subst, ap, ap₂, ◌∙◌, arith}
+use Rattle.std.proofs.Common.{◌≡◌, ◌<◌, ◌≤◌, ℕ, true, false, true≢false, List, [], ◌∷◌, ◌++◌, length, map, refl, reverse, sym, subst, ap, ap₂, ◌∙◌, arith}
 use Rattle.std.proofs.lemmas.Bool.Decides.{nat_tests}
 use Rattle.std.specs.Prelude.{Some, nat_lt, if◌then◌else◌}
 use Rattle.ap_defs.specs.Freshness.{var_eq}
-use Rattle.ap_defs.specs.Renaming.{IsBelow, rename_term, rename_var}
-use Rattle.ap_defs.specs.Substitution.{Binding, Equation, Problem, occurs, under, ◌≐◌}
+use Rattle.ap_defs.specs.Renaming.{rename_term, rename_var}
+use Rattle.ap_defs.specs.Substitution.{Binding, Equation, Problem, occurs, under}
 use Rattle.ap_defs.specs.Terms.{NominalTerm, abs, app, pair, susp, term_of}
 use Rattle.ap_defs.specs.Unification.{Rule, apply_rule, bind, clash, next, replace, rule, unless_occurs}
 use Rattle.ap_defs.specs.declared.terms.Name.{Name}
@@ -13,9 +13,7 @@ use Rattle.ap_defs.specs.declared.terms.Term.{Term}
 use Rattle.ap_defs.specs.declared.terms.Term.TheVariants as code
 use Rattle.ap_defs.specs.declared.terms.Var.{Var}
 use Rattle.ap_perm.proofs.LookupLemmas.{depth_ranked}
-use Rattle.ap_perm.specs.Closures.{closure_term}
 use Rattle.ap_perm.specs.Lookups.{depth_of}
-use Rattle.ap_perm.specs.declared.closures.Closure.{Closure}
 use Rattle.ap_store.proofs.StoreLemmas.{store_ranked, store_sound}
 use Rattle.ap_store.specs.Heads.{HasForm, IsHeadUnbound}
 use Rattle.ap_store.specs.Views.{bindings_of, present, rank, raw_bound}
@@ -26,10 +24,10 @@ use Rattle.ap_theory.specs.Variables.{IsUnbound}
 use Rattle.ap_rules.proofs.RunLemmas.{bind_in_under, bound_in, dropped}
 use Rattle.ap_rules.proofs.SuspensionLemmas.{form_under, head_var_stays, rule_binds_left, rule_binds_right}
 use Rattle.ap_rules.proofs.WorkLemmas.{pairs_below-append, put_last}
-use Rattle.ap_unify.specs.Parts.{AreTurnMarksTrue, IsFurther, IsHead, IsMarkTrue, IsTurnBelow, PutsNothing}
+use Rattle.ap_unify.specs.Parts.{AreTurnMarksTrue, IsFurther, IsHead, IsMarkTrue, IsTurnBelow, PutsNothing, parts_equation}
 use Rattle.ap_equations.specs.Plain.{plain_term}
 use Rattle.ap_rules.specs.Runs.{equation_under, problem_under, stage_under}
-use Rattle.ap_rules.specs.Work.{ArePairsBelow, pair_equation}
+use Rattle.ap_rules.specs.Work.{ArePairsBelow, IsPairBelow, pair_equation}
 use Rattle.ap_unify.specs.declared.heads.Head.{Head}
 use Rattle.ap_unify.specs.declared.heads.Head.TheVariants as heads
 use Rattle.ap_unify.specs.declared.parts.Ahead.{Ahead}
@@ -121,7 +119,7 @@ pub bind_if_absent : (x : Var) (t : NominalTerm) → occurs x t ≡ false → un
 bind_if_absent x t e = ap (λ v. if v then clash else bind x t) e
 
 -- a turn that puts nothing ahead
-pub nothing_below : (n : ℕ) (t : Turn) (f : Ahead) → PutsNothing t → IsTurnBelow n t f
+pub nothing_below : (n : ℕ) (t : Turn) (f : Ahead) → PutsNothing t → IsTurnBelow parts_equation n t f
 nothing_below n turns.Clash f h = tt
 nothing_below n turns.Done f h = tt
 nothing_below n turns.On f h = absurd h
@@ -155,11 +153,10 @@ module _ (s : List Binding) (p q : Plain) (m : q.is_ground ≡ p.is_ground) (h :
   pub abs_mark : (a : Name) (t : NominalTerm) → plain_term p ≡ abs a t → plain_term q ≡ t → IsMarkTrue s q
   abs_mark a t e f = λ g y. ap (λ v. occurs y (under s v)) f ∙ sym (ap (λ v. occurs y (under s v)) e) ∙ h (sym m ∙ g) y
 
--- an equation of two parts is put in front
-module _ (es fs : List ClosurePair) (e : ClosurePair) (t u : NominalTerm) (l : closure_term e.left ≡ t) (r : closure_term e.right ≡ u) (h : fs ≡ es ++ e ∷ []) where
-  pub put_front : map pair_equation (reverse fs) ≡ (t ≐ u) ∷ map pair_equation (reverse es)
-  put_front = ap (λ gs. map pair_equation (reverse gs)) h ∙ put_last es e ∙ ap₂ (λ v w. (v ≐ w) ∷ map pair_equation (reverse es)) l r
+-- an equation of closures is put in front
+module _ (es fs : List ClosurePair) (e : ClosurePair) (q : Equation) (i : pair_equation e ≡ q) (h : fs ≡ es ++ e ∷ []) where
+  pub put_front : map pair_equation (reverse fs) ≡ q ∷ map pair_equation (reverse es)
+  put_front = ap (λ gs. map pair_equation (reverse gs)) h ∙ put_last es e ∙ ap (λ r. r ∷ map pair_equation (reverse es)) i
 
-  pub put_below : (n : ℕ) → IsBelow n t → IsBelow n u → ArePairsBelow n es → ArePairsBelow n fs
-  put_below n j k m =
-      subst (ArePairsBelow n) (sym h) (pairs_below-append n es (e ∷ []) m ((subst (IsBelow n) (sym l) j, subst (IsBelow n) (sym r) k), tt))
+  pub put_below : (n : ℕ) → IsPairBelow n e → ArePairsBelow n es → ArePairsBelow n fs
+  put_below n k m = subst (ArePairsBelow n) (sym h) (pairs_below-append n es (e ∷ []) m (k, tt))

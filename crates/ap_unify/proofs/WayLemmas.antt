@@ -1,12 +1,12 @@
 -- How the step for an equation of two parts goes on, where another one may wait behind it.
-use Rattle.std.proofs.Common.{◌≡◌, ◌++◌, ◌∷◌, List, map, reverse, subst, ap, ap₂, ◌∙◌}
+use Rattle.std.proofs.Common.{◌≡◌, ◌++◌, ◌∷◌, List, map, refl, reverse, subst, sym, ap, ap₂, ◌∙◌}
 use Rattle.std.specs.Prelude.{Option, Some, None}
-use Rattle.ap_defs.specs.Substitution.{Binding, under}
+use Rattle.ap_defs.specs.Substitution.{Binding, Equation, Problem, under, ◌≐◌}
 use Rattle.ap_defs.specs.Terms.{NominalTerm}
 use Rattle.ap_defs.specs.Unification.{Progress, apply_rule, failed, next, step}
 use Rattle.ap_store.specs.Marks.{HasNoVars}
 use Rattle.ap_equations.specs.Plain.{plain_term}
-use Rattle.ap_unify.specs.Parts.{AreMarksTrue, AreWaitingMarksTrue, IsRuleFor, parts_equation, rule_of, stage_of, stage_with, waiting_equations}
+use Rattle.ap_unify.specs.Parts.{AreMarksTrue, AreWaitingMarksTrue, IsRuleFor, PairReading, rule_of, rule_under, stage_of, stage_with, waiting_equations}
 use Rattle.ap_rules.specs.Runs.{equation_under, problem_under, stage_under}
 use Rattle.ap_rules.specs.Work.{equations_left, pair_equation, problem_for, problems_met}
 use Rattle.ap_rules.specs.declared.pairs.Work.{Work}
@@ -24,38 +24,46 @@ module _ (s r : List Binding) (f : (t : NominalTerm) → HasNoVars (under s t) �
   waiting_stay None h = tt
   waiting_stay (Some p) h = marks_stay p h
 
-module _ (s r : List Binding) (pair : PlainPair) (o : Option PlainPair) (w v : Work) (e : v.equations.items ≡ w.equations.items) (f : v.problems.items ≡ w.problems.items) where
+-- the rule for an equation in front
+rule_first : (s : List Binding) (e : Equation) (es : List Equation) (ps : List Problem)
+    → apply_rule (rule_under s e) (map (equation_under s) es) (map (problem_under s) ps) s ≡ step (stage_under s (e ∷ es) ps)
+rule_first s (t ≐ u) es ps = refl
+
+module _ (q : PairReading) (s r : List Binding) (pair : PlainPair) (o : Option PlainPair) (w v : Work) (e : v.equations.items ≡ w.equations.items) (f : v.problems.items ≡ w.problems.items) where
   abbrev stepped : Progress
-  stepped = step (stage_of s pair o w)
+  stepped = step (stage_of q s pair o w)
 
-  same_behind : step (stage_under s (parts_equation pair ∷ (waiting_equations o ++ equations_left v)) (problems_met v)) ≡ stepped
-  same_behind = ap₂ (λ es ps. step (stage_under s (parts_equation pair ∷ (waiting_equations o ++ map pair_equation (reverse es))) (map problem_for ps))) e f
+  same_behind : apply_rule (rule_of q s pair) (map (equation_under s) (waiting_equations q o ++ equations_left v)) (map (problem_under s) (problems_met v)) s ≡ stepped
+  same_behind =
+      rule_first s (q pair) (waiting_equations q o ++ equations_left v) (problems_met v)
+      ∙ ap₂ (λ es ps. step (stage_under s (q pair ∷ (waiting_equations q o ++ map pair_equation (reverse es))) (map problem_for ps))) e f
 
-  module _ (ahead : Ahead) (turn : Turn) (h : IsRuleFor turn ahead s r (rule_of s pair)) where
-    turned : (t : Turn) → turn ≡ t → IsRuleFor t ahead s r (rule_of s pair)
-    turned t k = subst (λ x. IsRuleFor x ahead s r (rule_of s pair)) k h
+  module _ (ahead : Ahead) (turn : Turn) (h : IsRuleFor q turn ahead s r (rule_of q s pair)) where
+    turned : (t : Turn) → turn ≡ t → IsRuleFor q t ahead s r (rule_of q s pair)
+    turned t k = subst (λ x. IsRuleFor q x ahead s r (rule_of q s pair)) k h
 
     pub clash_way : turn ≡ turns.Clash → failed ≡ stepped
-    clash_way k = turned turns.Clash k (waiting_equations o ++ equations_left v) (problems_met v) ∙ same_behind
+    clash_way k = turned turns.Clash k (waiting_equations q o ++ equations_left v) (problems_met v) ∙ same_behind
 
-    pub done_way : turn ≡ turns.Done → next (stage_under r (waiting_equations o ++ equations_left v) (problems_met v)) ≡ stepped
-    done_way k = turned turns.Done k (waiting_equations o ++ equations_left v) (problems_met v) ∙ same_behind
+    pub done_way : turn ≡ turns.Done → next (stage_under r (waiting_equations q o ++ equations_left v) (problems_met v)) ≡ stepped
+    done_way k = turned turns.Done k (waiting_equations q o ++ equations_left v) (problems_met v) ∙ same_behind
 
-    pub on_way : turn ≡ turns.On → next (stage_of r ahead.next o v) ≡ stepped
-    on_way k = turned turns.On k (waiting_equations o ++ equations_left v) (problems_met v) ∙ same_behind
+    pub on_way : turn ≡ turns.On → next (stage_of q r ahead.next o v) ≡ stepped
+    on_way k = turned turns.On k (waiting_equations q o ++ equations_left v) (problems_met v) ∙ same_behind
 
     -- once the one that waits is put to the others
-    module _ (u : Work) (g : equations_left u ≡ waiting_equations o ++ equations_left v) (i : u.problems.items ≡ v.problems.items) where
-      pub both_way : turn ≡ turns.Both → next (stage_of r ahead.next (Some ahead.later) u) ≡ stepped
+    module _ (u : Work) (g : equations_left u ≡ waiting_equations q o ++ equations_left v) (i : u.problems.items ≡ v.problems.items) where
+      pub both_way : turn ≡ turns.Both → next (stage_of q r ahead.next (Some ahead.later) u) ≡ stepped
       both_way k =
-          ap₂ (λ es ps. next (stage_under r (parts_equation ahead.next ∷ parts_equation ahead.later ∷ es) (map problem_for ps))) g i
-          ∙ turned turns.Both k (waiting_equations o ++ equations_left v) (problems_met v) ∙ same_behind
+          ap₂ (λ es ps. next (stage_under r (q ahead.next ∷ q ahead.later ∷ es) (map problem_for ps))) g i
+          ∙ turned turns.Both k (waiting_equations q o ++ equations_left v) (problems_met v) ∙ same_behind
 
-      pub other_way : turn ≡ turns.Other → step (stage_with r ahead.next u) ≡ stepped
+      pub other_way : turn ≡ turns.Other → step (stage_with q r ahead.next u) ≡ stepped
       other_way k =
-          let es = map (equation_under s) (waiting_equations o ++ equations_left v) in
+          let es = map (equation_under s) (waiting_equations q o ++ equations_left v) in
           let ps = map (problem_under s) (problems_met v) in
           let m = turned turns.Other k in
-          ap₂ (λ ds qs. step (stage_under r (parts_equation ahead.next ∷ ds) (map problem_for qs))) g i
-          ∙ ap (λ b. step (stage_under b (parts_equation ahead.next ∷ (waiting_equations o ++ equations_left v)) (problems_met v))) m.0
-          ∙ ap (λ q. apply_rule q es ps s) m.1 ∙ same_behind
+          ap₂ (λ ds xs. step (stage_under r (q ahead.next ∷ ds) (map problem_for xs))) g i
+          ∙ ap (λ b. step (stage_under b (q ahead.next ∷ (waiting_equations q o ++ equations_left v)) (problems_met v))) m.0
+          ∙ sym (rule_first s (q ahead.next) (waiting_equations q o ++ equations_left v) (problems_met v))
+          ∙ ap (λ x. apply_rule x es ps s) m.1 ∙ same_behind

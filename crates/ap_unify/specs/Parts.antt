@@ -56,28 +56,40 @@ IsLook a rank p (looks.Further q) = IsFurther a rank (plain_term p) (plain_term 
 abbrev pub parts_equation : PlainPair → Equation
 parts_equation p = plain_term p.left ≐ plain_term p.right
 
+-- the equation for which two parts stand: their own, or with swappings that wait on either side
+abbrev pub PairReading : Type 0
+PairReading = PlainPair → Equation
+
+-- the rule for an equation under the bindings
+abbrev pub rule_under : List Binding → Equation → Rule
+rule_under s (t ≐ u) = rule (under s t) (under s u)
+
+abbrev pub IsEquationBelow : ℕ → Equation → Type 0
+IsEquationBelow n (t ≐ u) = IsBelow n t × IsBelow n u
+
+abbrev pub rule_of : PairReading → List Binding → PlainPair → Rule
+rule_of q s p = rule_under s (q p)
+
+abbrev pub AreBelowBoth : PairReading → ℕ → PlainPair → Type 0
+AreBelowBoth q n p = IsEquationBelow n (q p)
+
 -- the stage of a run with an equation of two parts in front of those that are left
-abbrev pub stage_with : List Binding → PlainPair → Work → Stage
-stage_with s p w = stage_under s (parts_equation p ∷ equations_left w) (problems_met w)
+abbrev pub stage_with : PairReading → List Binding → PlainPair → Work → Stage
+stage_with q s p w = stage_under s (q p ∷ equations_left w) (problems_met w)
 
 -- how the equations behind come after a turn and what it puts ahead; it may leave it to another way
-abbrev pub progress_of : Turn → Ahead → List Binding → List Equation → List Problem → Progress
-progress_of turns.Clash f s es ps = failed
-progress_of turns.Done f s es ps = next (stage_under s es ps)
-progress_of turns.On f s es ps = next (stage_under s (parts_equation f.next ∷ es) ps)
-progress_of turns.Both f s es ps = next (stage_under s (parts_equation f.next ∷ parts_equation f.later ∷ es) ps)
-progress_of turns.Other f s es ps = failed
-
-abbrev pub rule_of : List Binding → PlainPair → Rule
-rule_of s p = rule (under s (plain_term p.left)) (under s (plain_term p.right))
+abbrev pub progress_of : PairReading → Turn → Ahead → List Binding → List Equation → List Problem → Progress
+progress_of q turns.Clash f s es ps = failed
+progress_of q turns.Done f s es ps = next (stage_under s es ps)
+progress_of q turns.On f s es ps = next (stage_under s (q f.next ∷ es) ps)
+progress_of q turns.Both f s es ps = next (stage_under s (q f.next ∷ q f.later ∷ es) ps)
+progress_of q turns.Other f s es ps = failed
 
 -- the turn is what a rule makes of whatever is behind; or no step was made, and the same rule is still to come
-abbrev pub IsRuleFor : Turn → Ahead → List Binding → List Binding → Rule → Type 0
-IsRuleFor turns.Other f s r q = (r ≡ s) × (rule_of s f.next ≡ q)
-IsRuleFor turn f s r q = (es : List Equation) (ps : List Problem) → progress_of turn f r es ps ≡ apply_rule q (map (equation_under s) es) (map (problem_under s) ps) s
-
-abbrev pub AreBelowBoth : ℕ → PlainPair → Type 0
-AreBelowBoth n p = IsBelow n (plain_term p.left) × IsBelow n (plain_term p.right)
+abbrev pub IsRuleFor : PairReading → Turn → Ahead → List Binding → List Binding → Rule → Type 0
+IsRuleFor q turns.Other f s r x = (r ≡ s) × (rule_of q s f.next ≡ x)
+IsRuleFor q turn f s r x =
+    (es : List Equation) (ps : List Problem) → progress_of q turn f r es ps ≡ apply_rule x (map (equation_under s) es) (map (problem_under s) ps) s
 
 abbrev pub AreMarksTrue : List Binding → PlainPair → Type 0
 AreMarksTrue s p = IsMarkTrue s p.left × IsMarkTrue s p.right
@@ -88,11 +100,11 @@ PutsNothing turns.Clash = Unit {0}
 PutsNothing turns.Done = Unit {0}
 PutsNothing _ = ⊥
 
-abbrev pub IsTurnBelow : ℕ → Turn → Ahead → Type 0
-IsTurnBelow n turns.On f = AreBelowBoth n f.next
-IsTurnBelow n turns.Both f = AreBelowBoth n f.next × AreBelowBoth n f.later
-IsTurnBelow n turns.Other f = AreBelowBoth n f.next
-IsTurnBelow n _ f = Unit {0}
+abbrev pub IsTurnBelow : PairReading → ℕ → Turn → Ahead → Type 0
+IsTurnBelow q n turns.On f = AreBelowBoth q n f.next
+IsTurnBelow q n turns.Both f = AreBelowBoth q n f.next × AreBelowBoth q n f.later
+IsTurnBelow q n turns.Other f = AreBelowBoth q n f.next
+IsTurnBelow q n _ f = Unit {0}
 
 abbrev pub AreTurnMarksTrue : List Binding → Turn → Ahead → Type 0
 AreTurnMarksTrue s turns.On f = AreMarksTrue s f.next
@@ -100,29 +112,29 @@ AreTurnMarksTrue s turns.Both f = AreMarksTrue s f.next × AreMarksTrue s f.late
 AreTurnMarksTrue s _ f = Unit {0}
 
 -- an equation that waits in front of those that are left, if there is one
-abbrev pub waiting_equations : Option PlainPair → List Equation
-waiting_equations None = []
-waiting_equations (Some p) = parts_equation p ∷ []
+abbrev pub waiting_equations : PairReading → Option PlainPair → List Equation
+waiting_equations q None = []
+waiting_equations q (Some p) = q p ∷ []
 
-abbrev pub IsWaitingBelow : ℕ → Option PlainPair → Type 0
-IsWaitingBelow n None = Unit {0}
-IsWaitingBelow n (Some p) = AreBelowBoth n p
+abbrev pub IsWaitingBelow : PairReading → ℕ → Option PlainPair → Type 0
+IsWaitingBelow q n None = Unit {0}
+IsWaitingBelow q n (Some p) = AreBelowBoth q n p
 
 abbrev pub AreWaitingMarksTrue : List Binding → Option PlainPair → Type 0
 AreWaitingMarksTrue s None = Unit {0}
 AreWaitingMarksTrue s (Some p) = AreMarksTrue s p
 
 -- the stage with an equation of two parts in front, and then one that waits
-abbrev pub stage_of : List Binding → PlainPair → Option PlainPair → Work → Stage
-stage_of s p o w = stage_under s (parts_equation p ∷ (waiting_equations o ++ equations_left w)) (problems_met w)
+abbrev pub stage_of : PairReading → List Binding → PlainPair → Option PlainPair → Work → Stage
+stage_of q s p o w = stage_under s (q p ∷ (waiting_equations q o ++ equations_left w)) (problems_met w)
 
-abbrev pub progress_to : Way → List Binding → Front → Work → Progress
-progress_to (ways.End b) s f w = progress_if b (work_stage s w)
-progress_to ways.On s f w = next (stage_of s f.ahead.next f.waiting w)
+abbrev pub progress_to : PairReading → Way → List Binding → Front → Work → Progress
+progress_to q (ways.End b) s f w = progress_if b (work_stage s w)
+progress_to q ways.On s f w = next (stage_of q s f.ahead.next f.waiting w)
 
-abbrev pub IsWayBelow : ℕ → Way → Front → Type 0
-IsWayBelow n (ways.End b) f = Unit {0}
-IsWayBelow n ways.On f = AreBelowBoth n f.ahead.next × IsWaitingBelow n f.waiting
+abbrev pub IsWayBelow : PairReading → ℕ → Way → Front → Type 0
+IsWayBelow q n (ways.End b) f = Unit {0}
+IsWayBelow q n ways.On f = AreBelowBoth q n f.ahead.next × IsWaitingBelow q n f.waiting
 
 abbrev pub AreWayMarksTrue : List Binding → Way → Front → Type 0
 AreWayMarksTrue s (ways.End b) f = Unit {0}

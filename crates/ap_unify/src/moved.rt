@@ -14,8 +14,8 @@ ghost use Rattle.ap_store.specs.Heads.{HasForm};
 ghost use Rattle.ap_store.specs.Triples.{IsPrefixOf};
 ghost use Rattle.ap_store.specs.Views.{bindings_of, kinds, meaning_in, present, versions};
 ghost use Rattle.ap_theory.specs.Variables.{IsUnbound};
-ghost use Rattle.ap_unify.specs.Moved.{AreMovedBelow, IsMovedRule, IsMovedTurnBelow, moved_rule};
-ghost use Rattle.ap_unify.specs.Parts.{IsHead};
+ghost use Rattle.ap_unify.specs.Moved.{moved_equation};
+ghost use Rattle.ap_unify.specs.Parts.{AreBelowBoth, IsHead, IsRuleFor, IsTurnBelow, rule_of};
 ghost use Rattle.ap_unify.specs.declared.moved.Sides.{Sides};
 ghost use Rattle.ap_unify.specs.declared.parts.Ahead.{Ahead};
 
@@ -41,8 +41,7 @@ pub struct Sides<'s> {
     pub right: &'s [Swap],
 }
 
-/// A part, with bindings at its head followed as long as no swappings wait on them, and what stands at its head
-/// then. It takes no memory.
+/// As `headed`, where a suspension stands at the head; all else stays as it is. It takes no memory.
 fn head_within<'a>(store: &Store<'a>, p: Plain<'a>) -> PartWithHead<'a>
     ensures meaning { under (bindings_of store.now) (plain_term result.part)
         ≡ under (bindings_of store.now) (plain_term p.entry) }
@@ -77,6 +76,7 @@ fn same_image(sides: Sides<'_>, left: Plain<'_>, a: Name, right: Plain<'_>, b: N
     ensures { result ≡ name_eq (act_name sides.entry.left.now (rename_name left.entry.base a))
         (act_name sides.entry.right.now (rename_name right.entry.base b)) }
 {
+    // Each `end` fits in a u64, so the sum below it does.
     let _end = left.end;
     let _other_end = right.end;
     image(sides.left, numbered(left.base, a)) == image(sides.right, numbered(right.base, b))
@@ -88,9 +88,10 @@ fn moved_forms(sides: Sides<'_>, ahead: &mut Ahead<'_>) -> Turn
     requires left_form { HasForm (plain_term ahead.old.next.left) }
     requires right_form { HasForm (plain_term ahead.old.next.right) }
     ensures turn { (s : list Binding) →
-        IsMovedRule sides.entry result ahead.new s s (moved_rule s sides.entry ahead.old.next) }
-    ensures below { (n : ℕ) → AreMovedBelow n sides.entry ahead.old.next →
-        IsMovedTurnBelow n sides.entry result ahead.new }
+        IsRuleFor (moved_equation sides.entry) result ahead.new s s
+        (rule_of (moved_equation sides.entry) s ahead.old.next) }
+    ensures below { (n : ℕ) → AreBelowBoth (moved_equation sides.entry) n ahead.old.next →
+        IsTurnBelow (moved_equation sides.entry) n result ahead.new }
 {
     let pair = ahead.next;
     let PlainPair { left, right } = pair;
@@ -155,11 +156,11 @@ fn bind_back<'a>(
     requires swaps { AreSwapsBelow (present store.old).next p.now }
     requires below { IsBelow (present store.old).next (closure_term c) }
     ensures turn { IfOk result (λ turn. (m : Sides) (f : Ahead) →
-        IsMovedRule m turn f (bindings_of store.old) (bindings_of store.new)
+        IsRuleFor (moved_equation m) turn f (bindings_of store.old) (bindings_of store.new)
         (unless_occurs x (meaning_in store.old c.entry)
         (act_term (inverse p.now) (meaning_in store.old c.entry)))) }
     ensures below { IfOk result (λ turn. (m : Sides) (f : Ahead) →
-        IsMovedTurnBelow (present store.old).next m turn f) }
+        IsTurnBelow (moved_equation m) (present store.old).next turn f) }
     ensures equations { work.new.equations.items ≡ work.old.equations.items }
     ensures problems { work.new.problems.items ≡ work.old.problems.items }
     ensures goes_on { OnOk result (GoOn (present store.old) work.old (present store.new) work.new) }
@@ -187,12 +188,12 @@ fn by_moved_heads<'a>(
 ) -> Result<Turn, Memory>
     requires left { IsHead (bindings_of store.old) (plain_term ahead.old.next.left) left }
     requires right { IsHead (bindings_of store.old) (plain_term ahead.old.next.right) right }
-    requires below { AreMovedBelow (present store.old).next sides ahead.old.next }
-    ensures turn { IfOk result (λ turn. IsMovedRule sides.entry turn ahead.new
+    requires below { AreBelowBoth (moved_equation sides) (present store.old).next ahead.old.next }
+    ensures turn { IfOk result (λ turn. IsRuleFor (moved_equation sides.entry) turn ahead.new
         (bindings_of store.old) (bindings_of store.new)
-        (moved_rule (bindings_of store.old) sides.entry ahead.old.next)) }
+        (rule_of (moved_equation sides.entry) (bindings_of store.old) ahead.old.next)) }
     ensures below { IfOk result (λ turn.
-        IsMovedTurnBelow (present store.old).next sides.entry turn ahead.new) }
+        IsTurnBelow (moved_equation sides.entry) (present store.old).next turn ahead.new) }
     ensures equations { work.new.equations.items ≡ work.old.equations.items }
     ensures problems { work.new.problems.items ≡ work.old.problems.items }
     ensures goes_on { OnOk result (GoOn (present store.old) work.old (present store.new) work.new) }
@@ -222,12 +223,12 @@ pub fn step_moved<'a>(
     sides: Sides<'_>,
     ahead: &mut Ahead<'a>,
 ) -> Result<Turn, Memory>
-    requires below { AreMovedBelow (present store.old).next sides ahead.old.next }
-    ensures turn { IfOk result (λ turn. IsMovedRule sides.entry turn ahead.new
+    requires below { AreBelowBoth (moved_equation sides) (present store.old).next ahead.old.next }
+    ensures turn { IfOk result (λ turn. IsRuleFor (moved_equation sides.entry) turn ahead.new
         (bindings_of store.old) (bindings_of store.new)
-        (moved_rule (bindings_of store.old) sides.entry ahead.old.next)) }
+        (rule_of (moved_equation sides.entry) (bindings_of store.old) ahead.old.next)) }
     ensures below { IfOk result (λ turn.
-        IsMovedTurnBelow (present store.old).next sides.entry turn ahead.new) }
+        IsTurnBelow (moved_equation sides.entry) (present store.old).next turn ahead.new) }
     ensures equations { work.new.equations.items ≡ work.old.equations.items }
     ensures problems { work.new.problems.items ≡ work.old.problems.items }
     ensures goes_on { OnOk result (GoOn (present store.old) work.old (present store.new) work.new) }

@@ -11,10 +11,10 @@ ghost use Rattle.ap_rules.specs.Work.{ArePairsBelow, GoOn, IsPairBelow, equation
 ghost use Rattle.ap_rules.specs.declared.pairs.Work.{Work};
 ghost use Rattle.ap_store.specs.Triples.{IsPrefixOf};
 ghost use Rattle.ap_store.specs.Views.{bindings_of, kinds, present, versions};
-ghost use Rattle.ap_unify.specs.Moved.{AreMovedBelow, IsMovedWaitingBelow, IsMovedWayBelow, moved_equation, moved_progress_to, moved_stage, moved_waiting};
-ghost use Rattle.ap_unify.specs.Parts.{LeadsTo};
+ghost use Rattle.ap_unify.specs.Moved.{moved_equation};
+ghost use Rattle.ap_unify.specs.Parts.{AreBelowBoth, IsWaitingBelow, IsWayBelow, LeadsTo, progress_to, stage_of, stage_with, waiting_equations};
 
-use crate::fronts::{Front, Way};
+use crate::fronts::{Front, Way, after_done};
 use crate::moved::{Sides, moved_closure, step_moved};
 use crate::parts::{Ahead, Turn};
 use ap_defs::memory::Memory;
@@ -33,8 +33,8 @@ fn pair_of<'a>(
     pair: PlainPair<'a>,
 ) -> Result<ClosurePair<'a>, Memory>
     ensures same { IfOk result (λ e. pair_equation e ≡ moved_equation sides.entry pair.entry) }
-    ensures below { IfOk result (λ e. (n : ℕ) → AreMovedBelow n sides.entry pair.entry →
-        IsPairBelow n e) }
+    ensures below { IfOk result (λ e. (n : ℕ) →
+        AreBelowBoth (moved_equation sides.entry) n pair.entry → IsPairBelow n e) }
 {
     let left = moved_closure(alloc, sides.left, pair.left)?;
     let right = moved_closure(alloc, sides.right, pair.right)?;
@@ -49,8 +49,9 @@ fn put_moved<'a>(
     waiting: Option<PlainPair<'a>>,
 ) -> Result<(), Memory>
     ensures equations { OnOk result (equations_left work.new
-        ≡ moved_waiting sides.entry waiting.entry ++ equations_left work.old) }
-    ensures below { OnOk result ((n : ℕ) → IsMovedWaitingBelow n sides.entry waiting.entry →
+        ≡ waiting_equations (moved_equation sides.entry) waiting.entry ++ equations_left work.old) }
+    ensures below { OnOk result ((n : ℕ) →
+        IsWaitingBelow (moved_equation sides.entry) n waiting.entry →
         ArePairsBelow n work.old.equations.items → ArePairsBelow n work.new.equations.items) }
     ensures problems { work.new.problems.items ≡ work.old.problems.items }
     ensures taken { work.new.taken.items ≡ work.old.taken.items }
@@ -72,35 +73,17 @@ fn by_moved_closures<'a>(
     sides: Sides<'_>,
     pair: PlainPair<'a>,
 ) -> Result<bool, Memory>
-    requires below { AreMovedBelow (present store.old).next sides pair }
+    requires below { AreBelowBoth (moved_equation sides) (present store.old).next pair }
     ensures stage { IfOk result (λ goes_on. progress_if goes_on (work_stage
         (bindings_of store.new) work.new)
-        ≡ step (stage_under (bindings_of store.old) (moved_equation sides.entry pair.entry ∷
-        equations_left work.old) (problems_met work.old))) }
+        ≡ step (stage_with (moved_equation sides.entry) (bindings_of store.old) pair.entry
+        work.old)) }
     ensures goes_on { OnOk result (GoOn (present store.old) work.old (present store.new) work.new) }
     ensures past { IsPrefixOf (versions store.old) (versions store.new) }
     ensures kinds { kinds store.new ≡ kinds store.old }
 {
     let e = pair_of(alloc, sides, pair)?;
     by_rule(alloc, store, work, e)
-}
-
-/// The way on once nothing is left of the equation in front: the one that waits, or those that are left.
-fn after_moved(front: &mut Front<'_>) -> Way
-    ensures way { (s : List Binding) → (m : Sides) → (w : Work) →
-        moved_progress_to result s m front.new w ≡ next (stage_under s
-        (moved_waiting m front.old.waiting ++ equations_left w) (problems_met w)) }
-    ensures below { (n : ℕ) → (m : Sides) → IsMovedWaitingBelow n m front.old.waiting →
-        IsMovedWayBelow n m result front.new }
-{
-    match front.waiting {
-        None => Way::End(true),
-        Some(pair) => {
-            front.ahead.next = pair;
-            front.waiting = None;
-            Way::On
-        }
-    }
 }
 
 /// One step for the equation in front. It is replaced in the place.
@@ -111,20 +94,22 @@ fn next_moved<'a>(
     sides: Sides<'_>,
     front: &mut Front<'a>,
 ) -> Result<Way, Memory>
-    requires pair { AreMovedBelow (present store.old).next sides front.old.ahead.next }
-    requires waiting { IsMovedWaitingBelow (present store.old).next sides front.old.waiting }
-    ensures stage { IfOk result (λ way. moved_progress_to way (bindings_of store.new) sides.entry
-        front.new work.new ≡ step (moved_stage (bindings_of store.old) sides.entry
+    requires pair { AreBelowBoth (moved_equation sides) (present store.old).next
+        front.old.ahead.next }
+    requires waiting { IsWaitingBelow (moved_equation sides) (present store.old).next
+        front.old.waiting }
+    ensures stage { IfOk result (λ way. progress_to (moved_equation sides.entry) way
+        (bindings_of store.new) front.new work.new ≡ step (stage_of (moved_equation sides.entry) (bindings_of store.old)
         front.old.ahead.next front.old.waiting work.old)) }
     ensures below { IfOk result (λ way.
-        IsMovedWayBelow (present store.old).next sides.entry way front.new) }
+        IsWayBelow (moved_equation sides.entry) (present store.old).next way front.new) }
     ensures goes_on { OnOk result (GoOn (present store.old) work.old (present store.new) work.new) }
     ensures past { IsPrefixOf (versions store.old) (versions store.new) }
     ensures kinds { kinds store.new ≡ kinds store.old }
 {
     match step_moved(alloc, store, work, sides, &mut front.ahead)? {
         Turn::Clash => Ok(Way::End(false)),
-        Turn::Done => Ok(after_moved(front)),
+        Turn::Done => Ok(after_done(front)),
         Turn::On => Ok(Way::On),
         Turn::Both => {
             put_moved(alloc, work, sides, front.waiting)?;
@@ -169,9 +154,9 @@ fn along_moved<'a>(
     sides: Sides<'_>,
     first: PlainPair<'a>,
 ) -> Result<bool, Memory>
-    requires { AreMovedBelow (present store.old).next sides first }
-    ensures stage { IfOk result (λ goes_on. LeadsTo (stage_under (bindings_of store.old)
-        (moved_equation sides.entry first.entry ∷ equations_left work.old) (problems_met work.old))
+    requires { AreBelowBoth (moved_equation sides) (present store.old).next first }
+    ensures stage { IfOk result (λ goes_on. LeadsTo (stage_with (moved_equation sides.entry)
+        (bindings_of store.old) first.entry work.old)
         (progress_if goes_on (work_stage (bindings_of store.new) work.new))) }
     ensures goes_on { OnOk result (GoOn (present store.old) work.old (present store.new) work.new) }
     ensures past { IsPrefixOf (versions store.old) (versions store.new) }

@@ -12,7 +12,7 @@ ghost use Rattle.ap_store.specs.Marks.{HasNoVars};
 ghost use Rattle.ap_store.specs.Triples.{IsPrefixOf};
 ghost use Rattle.ap_store.specs.Views.{bindings_of, kinds, present, versions};
 ghost use Rattle.ap_theory.specs.Variables.{IsUnbound};
-ghost use Rattle.ap_unify.specs.Parts.{AreBelowBoth, AreMarksTrue, AreTurnMarksTrue, IsHead, IsMarkTrue, IsRuleFor, IsTurnBelow, PutsNothing, rule_of};
+ghost use Rattle.ap_unify.specs.Parts.{AreBelowBoth, AreMarksTrue, AreTurnMarksTrue, IsHead, IsMarkTrue, IsRuleFor, IsTurnBelow, PutsNothing, parts_equation, rule_of};
 ghost use Rattle.ap_equations.specs.Plain.{plain_term};
 ghost use Rattle.ap_rules.specs.Work.{GoOn};
 ghost use Rattle.ap_store.specs.Heads.{HasForm};
@@ -67,7 +67,8 @@ fn bind_part<'a>(
     requires like { (w : variable) → found ≡ Occurrence.Like w → HaveSameVars
         (under (bindings_of store.old) (plain_term p))
         (under (bindings_of store.old) (susp [] w)) }
-    ensures turn { IfOk result (λ turn. (f : Ahead) → IsRuleFor turn f (bindings_of store.old)
+    ensures turn { IfOk result (λ turn. (f : Ahead) →
+        IsRuleFor parts_equation turn f (bindings_of store.old)
         (bindings_of store.new) (bind x (under (bindings_of store.old) (plain_term p.entry)))) }
     ensures ahead { IfOk result PutsNothing }
     ensures equations { work.new.equations.items ≡ work.old.equations.items }
@@ -93,7 +94,8 @@ fn bind_unless_occurs<'a>(
     requires unbound { IsUnbound (bindings_of store.old) x }
     requires part { IsBelow (present store.old).next (plain_term p) }
     requires mark { IsMarkTrue (bindings_of store.old) p }
-    ensures turn { IfOk result (λ turn. (f : Ahead) → IsRuleFor turn f (bindings_of store.old)
+    ensures turn { IfOk result (λ turn. (f : Ahead) →
+        IsRuleFor parts_equation turn f (bindings_of store.old)
         (bindings_of store.new) (unless_occurs x
         (under (bindings_of store.old) (plain_term p.entry))
         (under (bindings_of store.old) (plain_term p.entry)))) }
@@ -128,9 +130,10 @@ fn variables<'a>(
     requires right { plain_term pair.right ≡ susp [] y }
     requires left_unbound { IsUnbound (bindings_of store.old) x }
     requires right_unbound { IsUnbound (bindings_of store.old) y }
-    requires below { AreBelowBoth (present store.old).next pair }
-    ensures turn { IfOk result (λ turn. (f : Ahead) → IsRuleFor turn f (bindings_of store.old)
-        (bindings_of store.new) (rule_of (bindings_of store.old) pair.entry)) }
+    requires below { AreBelowBoth parts_equation (present store.old).next pair }
+    ensures turn { IfOk result (λ turn. (f : Ahead) →
+        IsRuleFor parts_equation turn f (bindings_of store.old)
+        (bindings_of store.new) (rule_of parts_equation (bindings_of store.old) pair.entry)) }
     ensures ahead { IfOk result PutsNothing }
     ensures equations { work.new.equations.items ≡ work.old.equations.items }
     ensures problems { work.new.problems.items ≡ work.old.problems.items }
@@ -154,6 +157,7 @@ fn same_name(left: Plain<'_>, a: Name, right: Plain<'_>, b: Name) -> bool
     requires right { right.base + b.num < right.end }
     ensures { result ≡ name_eq (rename_name left.entry.base a) (rename_name right.entry.base b) }
 {
+    // Each `end` fits in a u64, so the sum below it does.
     let _end = left.end;
     let _other_end = right.end;
     numbered(left.base, a) == numbered(right.base, b)
@@ -182,8 +186,9 @@ fn forms(ahead: &mut Ahead<'_>) -> Turn
     requires left_form { HasForm (plain_term ahead.old.next.left) }
     requires right_form { HasForm (plain_term ahead.old.next.right) }
     ensures turn { (s : List Binding) →
-        IsRuleFor result ahead.new s s (rule_of s ahead.old.next) }
-    ensures below { (n : ℕ) → AreBelowBoth n ahead.old.next → IsTurnBelow n result ahead.new }
+        IsRuleFor parts_equation result ahead.new s s (rule_of parts_equation s ahead.old.next) }
+    ensures below { (n : ℕ) → AreBelowBoth parts_equation n ahead.old.next →
+        IsTurnBelow parts_equation n result ahead.new }
     ensures marks { (s : List Binding) → AreMarksTrue s ahead.old.next →
         AreTurnMarksTrue s result ahead.new }
 {
@@ -245,11 +250,13 @@ fn by_heads<'a>(
 ) -> Result<Turn, Memory>
     requires left { IsHead (bindings_of store.old) (plain_term ahead.old.next.left) left }
     requires right { IsHead (bindings_of store.old) (plain_term ahead.old.next.right) right }
-    requires below { AreBelowBoth (present store.old).next ahead.old.next }
+    requires below { AreBelowBoth parts_equation (present store.old).next ahead.old.next }
     requires marks { AreMarksTrue (bindings_of store.old) ahead.old.next }
-    ensures turn { IfOk result (λ turn. IsRuleFor turn ahead.new (bindings_of store.old)
-        (bindings_of store.new) (rule_of (bindings_of store.old) ahead.old.next)) }
-    ensures below { IfOk result (λ turn. IsTurnBelow (present store.old).next turn ahead.new) }
+    ensures turn { IfOk result (λ turn. IsRuleFor parts_equation turn ahead.new
+        (bindings_of store.old) (bindings_of store.new)
+        (rule_of parts_equation (bindings_of store.old) ahead.old.next)) }
+    ensures below { IfOk result (λ turn.
+        IsTurnBelow parts_equation (present store.old).next turn ahead.new) }
     ensures marks { IfOk result (λ turn.
         AreTurnMarksTrue (bindings_of store.new) turn ahead.new) }
     ensures equations { work.new.equations.items ≡ work.old.equations.items }
@@ -277,11 +284,13 @@ pub fn step_parts<'a>(
     work: &mut Work<'a>,
     ahead: &mut Ahead<'a>,
 ) -> Result<Turn, Memory>
-    requires below { AreBelowBoth (present store.old).next ahead.old.next }
+    requires below { AreBelowBoth parts_equation (present store.old).next ahead.old.next }
     requires marks { AreMarksTrue (bindings_of store.old) ahead.old.next }
-    ensures turn { IfOk result (λ turn. IsRuleFor turn ahead.new (bindings_of store.old)
-        (bindings_of store.new) (rule_of (bindings_of store.old) ahead.old.next)) }
-    ensures below { IfOk result (λ turn. IsTurnBelow (present store.old).next turn ahead.new) }
+    ensures turn { IfOk result (λ turn. IsRuleFor parts_equation turn ahead.new
+        (bindings_of store.old) (bindings_of store.new)
+        (rule_of parts_equation (bindings_of store.old) ahead.old.next)) }
+    ensures below { IfOk result (λ turn.
+        IsTurnBelow parts_equation (present store.old).next turn ahead.new) }
     ensures marks { IfOk result (λ turn.
         AreTurnMarksTrue (bindings_of store.new) turn ahead.new) }
     ensures equations { work.new.equations.items ≡ work.old.equations.items }

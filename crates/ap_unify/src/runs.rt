@@ -6,7 +6,7 @@ ghost use Rattle.ap_defs.specs.Unification.{ending};
 ghost use Rattle.ap_store.specs.Triples.{IsPrefixOf};
 ghost use Rattle.ap_store.specs.Views.{bindings_of, kinds, present, versions};
 ghost use Rattle.ap_unify.specs.Lists.{renamed_terms_in};
-ghost use Rattle.ap_unify.specs.Parts.{AreBelowBoth, AreMarksTrue, LeadsTo, Reaches, stage_with};
+ghost use Rattle.ap_unify.specs.Parts.{AreBelowBoth, AreMarksTrue, LeadsTo, Reaches, parts_equation, stage_with};
 ghost use Rattle.ap_equations.specs.Plain.{plain_term};
 ghost use Rattle.ap_rules.specs.Runs.{paired, stage_under};
 ghost use Rattle.ap_rules.specs.Work.{ArePairsBelow, GoOn, IsPairBelow, ending_if, equations_left, pair_equation, problems_met, progress_if, work_stage};
@@ -30,10 +30,10 @@ fn along<'a>(
     work: &mut Work<'a>,
     first: PlainPair<'a>,
 ) -> Result<bool, Memory>
-    requires below { AreBelowBoth (present store.old).next first }
+    requires below { AreBelowBoth parts_equation (present store.old).next first }
     requires marks { AreMarksTrue (bindings_of store.old) first }
-    ensures stage { IfOk result (λ goes_on. LeadsTo (stage_with (bindings_of store.old) first.entry
-        work.old) (progress_if goes_on (work_stage (bindings_of store.new) work.new))) }
+    ensures stage { IfOk result (λ goes_on. LeadsTo
+        (stage_with parts_equation (bindings_of store.old) first.entry work.old) (progress_if goes_on (work_stage (bindings_of store.new) work.new))) }
     ensures goes_on { OnOk result (GoOn (present store.old) work.old (present store.new) work.new) }
     ensures past { IsPrefixOf (versions store.old) (versions store.new) }
     ensures kinds { kinds store.new ≡ kinds store.old }
@@ -119,11 +119,11 @@ fn solve<'a>(
     work: &mut Work<'a>,
     pair: PlainPair<'a>,
 ) -> Result<bool, Memory>
-    requires below { AreBelowBoth (present store.old).next pair }
+    requires below { AreBelowBoth parts_equation (present store.old).next pair }
     requires marks { AreMarksTrue (bindings_of store.old) pair }
     requires pairs { ArePairsBelow (present store.old).next work.old.equations.items }
-    ensures stage { IfOk result (λ solved. LeadsTo (stage_with (bindings_of store.old) pair.entry
-        work.old) (progress_if solved (work_stage (bindings_of store.new) work.new))) }
+    ensures stage { IfOk result (λ solved. LeadsTo
+        (stage_with parts_equation (bindings_of store.old) pair.entry work.old) (progress_if solved (work_stage (bindings_of store.new) work.new))) }
     ensures left { IfOk result (λ solved. solved ≡ true → work.new.equations.items ≡ []) }
     ensures goes_on { OnOk result (GoOn (present store.old) work.old (present store.new) work.new) }
     ensures past { IsPrefixOf (versions store.old) (versions store.new) }

@@ -5,12 +5,12 @@ ghost use Rattle.ap_defs.specs.Substitution.{Binding};
 ghost use Rattle.ap_defs.specs.Unification.{next};
 ghost use Rattle.ap_store.specs.Triples.{IsPrefixOf};
 ghost use Rattle.ap_store.specs.Views.{bindings_of, kinds, present, versions};
-ghost use Rattle.ap_unify.specs.Parts.{AreBelowBoth, AreMarksTrue, AreWaitingMarksTrue, AreWayMarksTrue, IsWaitingBelow, IsWayBelow, LeadsTo, progress_to, stage_of, stage_with, waiting_equations};
+ghost use Rattle.ap_unify.specs.Parts.{AreBelowBoth, AreMarksTrue, AreWaitingMarksTrue, AreWayMarksTrue, IsWaitingBelow, IsWayBelow, LeadsTo, parts_equation, progress_to, stage_of, stage_with, waiting_equations};
 ghost use Rattle.ap_rules.specs.Runs.{stage_under};
 ghost use Rattle.ap_rules.specs.Work.{ArePairsBelow, GoOn, equations_left, problems_met, progress_if, work_stage};
 ghost use Rattle.ap_rules.specs.declared.pairs.Work.{Work};
 
-use crate::fronts::{Front, Way};
+use crate::fronts::{Front, Way, after_done};
 use crate::moved_runs::along_closures;
 use crate::parts::{Turn, step_parts};
 use ap_defs::memory::Memory;
@@ -27,8 +27,8 @@ fn put_waiting<'a>(
     waiting: Option<PlainPair<'a>>,
 ) -> Result<(), Memory>
     ensures equations { OnOk result (equations_left work.new
-        ≡ waiting_equations waiting.entry ++ equations_left work.old) }
-    ensures below { OnOk result ((n : ℕ) → IsWaitingBelow n waiting.entry →
+        ≡ waiting_equations parts_equation waiting.entry ++ equations_left work.old) }
+    ensures below { OnOk result ((n : ℕ) → IsWaitingBelow parts_equation n waiting.entry →
         ArePairsBelow n work.old.equations.items → ArePairsBelow n work.new.equations.items) }
     ensures problems { work.new.problems.items ≡ work.old.problems.items }
     ensures taken { work.new.taken.items ≡ work.old.taken.items }
@@ -43,17 +43,17 @@ fn put_waiting<'a>(
     }
 }
 
-/// One or several steps for two parts, by closures on which few swappings wait. It answers false where there is no
-/// solution.
+/// One or several steps for two parts, by closures: what they stand for is followed no further than few swappings
+/// wait. It answers false where there is no solution.
 fn by_closures<'a>(
     alloc: Global,
     store: &mut Store<'a>,
     work: &mut Work<'a>,
     pair: PlainPair<'a>,
 ) -> Result<bool, Memory>
-    requires below { AreBelowBoth (present store.old).next pair }
-    ensures stage { IfOk result (λ goes_on. LeadsTo (stage_with (bindings_of store.old) pair.entry
-        work.old) (progress_if goes_on (work_stage (bindings_of store.new) work.new))) }
+    requires below { AreBelowBoth parts_equation (present store.old).next pair }
+    ensures stage { IfOk result (λ goes_on. LeadsTo
+        (stage_with parts_equation (bindings_of store.old) pair.entry work.old) (progress_if goes_on (work_stage (bindings_of store.new) work.new))) }
     ensures goes_on { OnOk result (GoOn (present store.old) work.old (present store.new) work.new) }
     ensures past { IsPrefixOf (versions store.old) (versions store.new) }
     ensures kinds { kinds store.new ≡ kinds store.old }
@@ -63,25 +63,6 @@ fn by_closures<'a>(
     along_closures(alloc, store, work, ClosurePair { left, right })
 }
 
-/// The way on once nothing is left of the equation in front: the one that waits, or those that are left.
-fn after_done(front: &mut Front<'_>) -> Way
-    ensures way { (s : List Binding) → (w : Work) → progress_to result s front.new w
-        ≡ next (stage_under s (waiting_equations front.old.waiting ++ equations_left w)
-        (problems_met w)) }
-    ensures below { (n : ℕ) → IsWaitingBelow n front.old.waiting → IsWayBelow n result front.new }
-    ensures marks { (s : List Binding) → AreWaitingMarksTrue s front.old.waiting →
-        AreWayMarksTrue s result front.new }
-{
-    match front.waiting {
-        None => Way::End(true),
-        Some(pair) => {
-            front.ahead.next = pair;
-            front.waiting = None;
-            Way::On
-        }
-    }
-}
-
 /// One step for the equation in front, or several by closures. It is replaced in the place.
 pub fn next_way<'a>(
     alloc: Global,
@@ -89,14 +70,15 @@ pub fn next_way<'a>(
     work: &mut Work<'a>,
     front: &mut Front<'a>,
 ) -> Result<Way, Memory>
-    requires pair { AreBelowBoth (present store.old).next front.old.ahead.next }
-    requires waiting { IsWaitingBelow (present store.old).next front.old.waiting }
+    requires pair { AreBelowBoth parts_equation (present store.old).next front.old.ahead.next }
+    requires waiting { IsWaitingBelow parts_equation (present store.old).next front.old.waiting }
     requires marks { AreMarksTrue (bindings_of store.old) front.old.ahead.next }
     requires waiting_marks { AreWaitingMarksTrue (bindings_of store.old) front.old.waiting }
-    ensures stage { IfOk result (λ way. LeadsTo (stage_of (bindings_of store.old)
+    ensures stage { IfOk result (λ way. LeadsTo (stage_of parts_equation (bindings_of store.old)
         front.old.ahead.next front.old.waiting work.old)
-        (progress_to way (bindings_of store.new) front.new work.new)) }
-    ensures below { IfOk result (λ way. IsWayBelow (present store.old).next way front.new) }
+        (progress_to parts_equation way (bindings_of store.new) front.new work.new)) }
+    ensures below { IfOk result (λ way.
+        IsWayBelow parts_equation (present store.old).next way front.new) }
     ensures marks { IfOk result (λ way. AreWayMarksTrue (bindings_of store.new) way front.new) }
     ensures goes_on { OnOk result (GoOn (present store.old) work.old (present store.new) work.new) }
     ensures past { IsPrefixOf (versions store.old) (versions store.new) }

@@ -1,3 +1,4 @@
+use Rattle.ap_unify.specs.Parts.{IsRuleFor}
 use Rattle.std.proofs.Common.{ap, ap₂, subst, sym, ◌∙◌}
 use Rattle.ap_defs.specs.Permutations.{inverse}
 use Rattle.ap_defs.specs.Renaming.{IsBelow}
@@ -11,7 +12,7 @@ use Rattle.ap_store.specs.Views.{bindings_of, present}
 use Rattle.ap_unify.proofs.MovedLemmas.{act_form, free_made, free_swaps_below, moved_left, moved_right}
 use Rattle.ap_unify.proofs.PartLemmas.{head_form, head_free}
 use Rattle.ap_unify.proofs.moved.by_moved_heads.Goals as goal
-use Rattle.ap_unify.specs.Moved.{IsMovedRule}
+use Rattle.ap_unify.specs.Moved.{moved_equation}
 
 pub moved_forms-requires-clause-left_form : goal.moved_forms-requires-clause-left_form
 moved_forms-requires-clause-left_form c =
@@ -57,7 +58,7 @@ returns-in_ok-c-in-Free-Form-clause-turn c =
     let f = act_form m.right.now r (head_form s r c.args.right c.requires.right c.in-Free-Form.is-1) in
     let e = ap (λ (t : NominalTerm). unless_occurs x (under s t) (act_term (inverse m.left.now) (under s t))) c.in_ok-c-in-Free-Form.ensures
     ∙ moved_left s m.left.now x l u (head_free s l c.args.left x c.requires.left c.in-Free-Form.is-0) f in
-    if_ok c.bind_back-in-Free-Form.result (λ turn h. subst (IsMovedRule m turn c.args.ahead.now s (bindings_of c.bind_back-in-Free-Form.new.store)) e (h m c.args.ahead.now)) c.bind_back-in-Free-Form.ensures.turn
+    if_ok c.bind_back-in-Free-Form.result (λ turn h. subst (IsRuleFor (moved_equation m) turn c.args.ahead.now s (bindings_of c.bind_back-in-Free-Form.new.store)) e (h m c.args.ahead.now)) c.bind_back-in-Free-Form.ensures.turn
 
 pub returns-in_ok-c-in-Free-Form-clause-below : goal.returns-in_ok-c-in-Free-Form-clause-below
 returns-in_ok-c-in-Free-Form-clause-below c = if_ok c.bind_back-in-Free-Form.result (λ turn h. h c.args.sides c.args.ahead.now) c.bind_back-in-Free-Form.ensures.below
@@ -95,7 +96,7 @@ returns-in_ok-c-in-Form-Free-clause-turn c =
     let f = act_form m.left.now l (head_form s l c.args.left c.requires.left c.in-Form-Free.is-0) in
     let e = ap (λ (v : NominalTerm). unless_occurs y (under s v) (act_term (inverse m.right.now) (under s v))) c.in_ok-c-in-Form-Free.ensures
     ∙ moved_right s m.right.now y t r f (head_free s r c.args.right y c.requires.right c.in-Form-Free.is-1) in
-    if_ok c.bind_back.result (λ turn h. subst (IsMovedRule m turn c.args.ahead.now s (bindings_of c.bind_back.new.store)) e (h m c.args.ahead.now)) c.bind_back.ensures.turn
+    if_ok c.bind_back.result (λ turn h. subst (IsRuleFor (moved_equation m) turn c.args.ahead.now s (bindings_of c.bind_back.new.store)) e (h m c.args.ahead.now)) c.bind_back.ensures.turn
 
 pub returns-in_ok-c-in-Form-Free-clause-below : goal.returns-in_ok-c-in-Form-Free-clause-below
 returns-in_ok-c-in-Form-Free-clause-below c = if_ok c.bind_back.result (λ turn h. h c.args.sides c.args.ahead.now) c.bind_back.ensures.below

@@ -1,3 +1,4 @@
+use Rattle.ap_unify.specs.Parts.{IsWaitingBelow, stage_of, progress_to, IsWayBelow, AreBelowBoth}
 use Rattle.std.proofs.Common.{◌≡◌, ◌+◌, subst, sym, ◌∙◌, arith}
 use Rattle.ap_defs.specs.Unification.{next, step}
 use Rattle.ap_store.specs.Views.{bindings_of, present, versions}
@@ -5,7 +6,7 @@ use Rattle.ap_theory.proofs.TerminationLemmas.{steps_left, steps_left_next}
 use Rattle.ap_unify.proofs.ReachLemmas.{leads_now, leads_on}
 use Rattle.ap_rules.proofs.WorkLemmas.{go_on_on, goes_on_on}
 use Rattle.ap_unify.proofs.moved_runs.along_moved.Goals as goal
-use Rattle.ap_unify.specs.Moved.{AreMovedBelow, IsMovedWaitingBelow, IsMovedWayBelow, moved_progress_to, moved_stage}
+use Rattle.ap_unify.specs.Moved.{moved_equation}
 use Rattle.ap_rules.specs.Work.{progress_if, work_stage}
 use Rattle.ap_unify.specs.declared.fronts.Way.TheVariants as ways
 
@@ -14,9 +15,9 @@ returns-in-End-clause-stage c =
     let s = bindings_of c.next_moved.new.store in
     let w = c.next_moved.new.work in
     let f = c.next_moved.new.front in
-    let before = moved_stage (bindings_of c.going.store) c.args.sides c.going.front.ahead.next c.going.front.waiting c.going.work in
+    let before = stage_of (moved_equation c.args.sides) (bindings_of c.going.store) c.going.front.ahead.next c.going.front.waiting c.going.work in
     let p = progress_if c.in-End.goes_on (work_stage s w) in
-    let e : p ≡ step before = subst (λ x. moved_progress_to x s c.args.sides f w ≡ step before) c.in-End.is c.in_ok-goes_on.ensures.stage in
+    let e : p ≡ step before = subst (λ x. progress_to (moved_equation c.args.sides) x s f w ≡ step before) c.in-End.is c.in_ok-goes_on.ensures.stage in
     c.going.invariant.leads p (leads_now before p (sym e))
 
 pub going-smaller : goal.going-smaller
@@ -24,9 +25,9 @@ going-smaller c =
     let s = bindings_of c.next_moved.new.store in
     let w = c.next_moved.new.work in
     let f = c.next_moved.new.front in
-    let before = moved_stage (bindings_of c.going.store) c.args.sides c.going.front.ahead.next c.going.front.waiting c.going.work in
-    let after = moved_stage s c.args.sides f.ahead.next f.waiting w in
-    let e : next after ≡ step before = subst (λ x. moved_progress_to x s c.args.sides f w ≡ step before) c.in-On.is c.in_ok-goes_on.ensures.stage in
+    let before = stage_of (moved_equation c.args.sides) (bindings_of c.going.store) c.going.front.ahead.next c.going.front.waiting c.going.work in
+    let after = stage_of (moved_equation c.args.sides) s f.ahead.next f.waiting w in
+    let e : next after ≡ step before = subst (λ x. progress_to (moved_equation c.args.sides) x s f w ≡ step before) c.in-On.is c.in_ok-goes_on.ensures.stage in
     let k : steps_left before ≡ 1 + steps_left after = steps_left_next before after (sym e) in
     omega arith
 
@@ -38,15 +39,15 @@ going-preserved c =
     let s = bindings_of c.next_moved.new.store in
     let w = c.next_moved.new.work in
     let f = c.next_moved.new.front in
-    let before = moved_stage (bindings_of c.going.store) c.args.sides c.going.front.ahead.next c.going.front.waiting c.going.work in
-    let after = moved_stage s c.args.sides f.ahead.next f.waiting w in
-    let e : next after ≡ step before = subst (λ x. moved_progress_to x s c.args.sides f w ≡ step before) c.in-On.is c.in_ok-goes_on.ensures.stage in
+    let before = stage_of (moved_equation c.args.sides) (bindings_of c.going.store) c.going.front.ahead.next c.going.front.waiting c.going.work in
+    let after = stage_of (moved_equation c.args.sides) s f.ahead.next f.waiting w in
+    let e : next after ≡ step before = subst (λ x. progress_to (moved_equation c.args.sides) x s f w ≡ step before) c.in-On.is c.in_ok-goes_on.ensures.stage in
     let n = c.in_ok-goes_on.ensures.goes_on.next in
-    let below : IsMovedWayBelow b.next c.args.sides ways.On f = subst (λ x. IsMovedWayBelow b.next c.args.sides x f) c.in-On.is c.in_ok-goes_on.ensures.below in
+    let below : IsWayBelow (moved_equation c.args.sides) b.next ways.On f = subst (λ x. IsWayBelow (moved_equation c.args.sides) b.next x f) c.in-On.is c.in_ok-goes_on.ensures.below in
     record {
       leads = λ p h. c.going.invariant.leads p (leads_on before after p (sym e) h);
-      pair_below = subst (λ m. AreMovedBelow m c.args.sides f.ahead.next) (sym n) below.0;
-      waiting_below = subst (λ m. IsMovedWaitingBelow m c.args.sides f.waiting) (sym n) below.1;
+      pair_below = subst (λ m. AreBelowBoth (moved_equation c.args.sides) m f.ahead.next) (sym n) below.0;
+      waiting_below = subst (λ m. IsWaitingBelow (moved_equation c.args.sides) m f.waiting) (sym n) below.1;
       goes_on = go_on_on a b d c.args.work.now c.going.work w c.going.invariant.goes_on c.in_ok-goes_on.ensures.goes_on;
       past = goes_on_on (versions c.args.store.now) (versions c.going.store) (versions c.next_moved.new.store) c.going.invariant.past c.next_moved.ensures.past;
       kinds = c.next_moved.ensures.kinds ∙ c.going.invariant.kinds;

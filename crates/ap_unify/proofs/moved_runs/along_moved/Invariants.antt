@@ -3,21 +3,21 @@ use Rattle.ap_defs.specs.Unification.{Progress}
 use Rattle.ap_store.specs.Triples.{IsPrefixOf}
 use Rattle.ap_store.specs.Views.{bindings_of, kinds, present, versions}
 use Rattle.ap_theory.proofs.TerminationLemmas.{steps_left}
-use Rattle.ap_unify.specs.Moved.{AreMovedBelow, IsMovedWaitingBelow, moved_stage}
-use Rattle.ap_unify.specs.Parts.{LeadsTo}
+use Rattle.ap_unify.specs.Moved.{moved_equation}
+use Rattle.ap_unify.specs.Parts.{AreBelowBoth, IsWaitingBelow, LeadsTo, stage_of}
 use Rattle.ap_rules.specs.Work.{GoOn}
 use Rattle.ap_unify.proofs.moved_runs.along_moved.Given as goal
 
 -- what the stage leads to, the first one leads to
 abbrev pub invariant-going : goal.invariant-going
 invariant-going l = record {
-  leads : (p : Progress) → LeadsTo (moved_stage (bindings_of l.store) l.sides l.front.ahead.next l.front.waiting l.work) p → LeadsTo (moved_stage (bindings_of l.initial.store) l.initial.sides l.initial.front.ahead.next l.initial.front.waiting l.initial.work) p;
-  pair_below : AreMovedBelow (present l.store).next l.sides l.front.ahead.next;
-  waiting_below : IsMovedWaitingBelow (present l.store).next l.sides l.front.waiting;
+  leads : (p : Progress) → LeadsTo (stage_of (moved_equation l.sides) (bindings_of l.store) l.front.ahead.next l.front.waiting l.work) p → LeadsTo (stage_of (moved_equation l.initial.sides) (bindings_of l.initial.store) l.initial.front.ahead.next l.initial.front.waiting l.initial.work) p;
+  pair_below : AreBelowBoth (moved_equation l.sides) (present l.store).next l.front.ahead.next;
+  waiting_below : IsWaitingBelow (moved_equation l.sides) (present l.store).next l.front.waiting;
   goes_on : GoOn (present l.initial.store) l.initial.work (present l.store) l.work;
   past : IsPrefixOf (versions l.initial.store) (versions l.store);
   kinds : kinds l.store ≡ kinds l.initial.store;
 }
 
 abbrev pub decreases-going : goal.decreases-going
-decreases-going l = steps_left (moved_stage (bindings_of l.store) l.sides l.front.ahead.next l.front.waiting l.work)
+decreases-going l = steps_left (stage_of (moved_equation l.sides) (bindings_of l.store) l.front.ahead.next l.front.waiting l.work)

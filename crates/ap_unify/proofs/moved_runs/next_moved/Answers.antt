@@ -1,50 +1,51 @@
+use Rattle.ap_unify.specs.Parts.{IsTurnBelow, IsWaitingBelow, AreBelowBoth}
 use Rattle.std.proofs.Common.{subst, sym, ◌∙◌}
 use Rattle.ap_store.specs.Views.{bindings_of, present}
-use Rattle.ap_unify.proofs.MovedLemmas.{moved_both, moved_clash, moved_done, moved_on, moved_other}
+use Rattle.ap_unify.proofs.WayLemmas.{both_way, clash_way, done_way, on_way, other_way}
 use Rattle.ap_rules.proofs.WorkLemmas.{go_on_on, go_same}
 use Rattle.ap_unify.proofs.moved_runs.next_moved.Goals as goal
-use Rattle.ap_unify.specs.Moved.{AreMovedBelow, IsMovedTurnBelow, IsMovedWaitingBelow}
+use Rattle.ap_unify.specs.Moved.{moved_equation}
 
 pub returns-in-Clash-clause-stage : goal.returns-in-Clash-clause-stage
 returns-in-Clash-clause-stage c =
     let r = bindings_of c.step_moved.new.store in
     let v = c.step_moved.new.work in
-    moved_clash (bindings_of c.args.store.now) r c.args.sides c.args.front.now.ahead.next c.args.front.now.waiting c.args.work.now v c.step_moved.ensures.equations c.step_moved.ensures.problems
+    clash_way (moved_equation c.args.sides) (bindings_of c.args.store.now) r c.args.front.now.ahead.next c.args.front.now.waiting c.args.work.now v c.step_moved.ensures.equations c.step_moved.ensures.problems
     c.step_moved.new.ahead c.in_ok-step_moved.field-0 c.in_ok-step_moved.ensures.turn c.in-Clash.is
 
 pub returns-in-Done-clause-stage : goal.returns-in-Done-clause-stage
 returns-in-Done-clause-stage c =
     let r = bindings_of c.step_moved.new.store in
     let v = c.step_moved.new.work in
-    c.after_moved.ensures.way r c.args.sides v
-    ∙ moved_done (bindings_of c.args.store.now) r c.args.sides c.args.front.now.ahead.next c.args.front.now.waiting c.args.work.now v c.step_moved.ensures.equations c.step_moved.ensures.problems
+    c.after_done.ensures.way (moved_equation c.args.sides) r v
+    ∙ done_way (moved_equation c.args.sides) (bindings_of c.args.store.now) r c.args.front.now.ahead.next c.args.front.now.waiting c.args.work.now v c.step_moved.ensures.equations c.step_moved.ensures.problems
     c.step_moved.new.ahead c.in_ok-step_moved.field-0 c.in_ok-step_moved.ensures.turn c.in-Done.is
 
 pub returns-in-Done-clause-below : goal.returns-in-Done-clause-below
-returns-in-Done-clause-below c = c.after_moved.ensures.below (present c.args.store.now).next c.args.sides c.requires.waiting
+returns-in-Done-clause-below c = c.after_done.ensures.below (moved_equation c.args.sides) (present c.args.store.now).next c.requires.waiting
 
 pub returns-in-On-clause-stage : goal.returns-in-On-clause-stage
 returns-in-On-clause-stage c =
     let r = bindings_of c.step_moved.new.store in
     let v = c.step_moved.new.work in
-    moved_on (bindings_of c.args.store.now) r c.args.sides c.args.front.now.ahead.next c.args.front.now.waiting c.args.work.now v c.step_moved.ensures.equations c.step_moved.ensures.problems
+    on_way (moved_equation c.args.sides) (bindings_of c.args.store.now) r c.args.front.now.ahead.next c.args.front.now.waiting c.args.work.now v c.step_moved.ensures.equations c.step_moved.ensures.problems
     c.step_moved.new.ahead c.in_ok-step_moved.field-0 c.in_ok-step_moved.ensures.turn c.in-On.is
 
 pub returns-in-On-clause-below : goal.returns-in-On-clause-below
 returns-in-On-clause-below c =
     let n = (present c.args.store.now).next in
-    (subst (λ t. IsMovedTurnBelow n c.args.sides t c.step_moved.new.ahead) c.in-On.is c.in_ok-step_moved.ensures.below, c.requires.waiting)
+    (subst (λ t. IsTurnBelow (moved_equation c.args.sides) n t c.step_moved.new.ahead) c.in-On.is c.in_ok-step_moved.ensures.below, c.requires.waiting)
 
 pub returns-in_ok-put_moved-in-Both-clause-below : goal.returns-in_ok-put_moved-in-Both-clause-below
 returns-in_ok-put_moved-in-Both-clause-below c =
     let n = (present c.args.store.now).next in
-    subst (λ t. IsMovedTurnBelow n c.args.sides t c.step_moved.new.ahead) c.in-Both.is c.in_ok-step_moved.ensures.below
+    subst (λ t. IsTurnBelow (moved_equation c.args.sides) n t c.step_moved.new.ahead) c.in-Both.is c.in_ok-step_moved.ensures.below
 
 pub returns-in_ok-put_moved-in-Both-clause-stage : goal.returns-in_ok-put_moved-in-Both-clause-stage
 returns-in_ok-put_moved-in-Both-clause-stage c =
     let r = bindings_of c.step_moved.new.store in
     let v = c.step_moved.new.work in
-    moved_both (bindings_of c.args.store.now) r c.args.sides c.args.front.now.ahead.next c.args.front.now.waiting c.args.work.now v c.step_moved.ensures.equations c.step_moved.ensures.problems
+    both_way (moved_equation c.args.sides) (bindings_of c.args.store.now) r c.args.front.now.ahead.next c.args.front.now.waiting c.args.work.now v c.step_moved.ensures.equations c.step_moved.ensures.problems
     c.step_moved.new.ahead c.in_ok-step_moved.field-0 c.in_ok-step_moved.ensures.turn c.put_moved.new.work c.in_ok-put_moved-in-Both.ensures.equations c.put_moved.ensures.problems
     c.in-Both.is
 
@@ -56,20 +57,20 @@ returns-in_ok-put_moved-in-Both-clause-goes_on c =
     let u = c.put_moved.new.work in
     let g = c.in_ok-step_moved.ensures.goes_on in
     go_on_on a b b c.args.work.now v u g
-    (go_same b v u (c.in_ok-put_moved-in-Both.ensures.below b.next (subst (λ n. IsMovedWaitingBelow n c.args.sides c.args.front.now.waiting) (sym g.next) c.requires.waiting)) c.put_moved.ensures.taken)
+    (go_same b v u (c.in_ok-put_moved-in-Both.ensures.below b.next (subst (λ n. IsWaitingBelow (moved_equation c.args.sides) n c.args.front.now.waiting) (sym g.next) c.requires.waiting)) c.put_moved.ensures.taken)
 
 pub by_moved_closures-requires : goal.by_moved_closures-requires
 by_moved_closures-requires c =
     let f = c.step_moved.new.ahead in
-    let k : AreMovedBelow (present c.args.store.now).next c.args.sides f.next = subst (λ t. IsMovedTurnBelow (present c.args.store.now).next c.args.sides t f) c.in-Other.is c.in_ok-step_moved.ensures.below in
-    record { below = subst (λ n. AreMovedBelow n c.args.sides f.next) (sym c.in_ok-step_moved.ensures.goes_on.next) k }
+    let k : AreBelowBoth (moved_equation c.args.sides) (present c.args.store.now).next f.next = subst (λ t. IsTurnBelow (moved_equation c.args.sides) (present c.args.store.now).next t f) c.in-Other.is c.in_ok-step_moved.ensures.below in
+    record { below = subst (λ n. AreBelowBoth (moved_equation c.args.sides) n f.next) (sym c.in_ok-step_moved.ensures.goes_on.next) k }
 
 pub returns-in_ok-solved-in-Other-clause-stage : goal.returns-in_ok-solved-in-Other-clause-stage
 returns-in_ok-solved-in-Other-clause-stage c =
     let r = bindings_of c.step_moved.new.store in
     let v = c.step_moved.new.work in
     c.in_ok-solved-in-Other.ensures.stage
-    ∙ moved_other (bindings_of c.args.store.now) r c.args.sides c.args.front.now.ahead.next c.args.front.now.waiting c.args.work.now v c.step_moved.ensures.equations c.step_moved.ensures.problems
+    ∙ other_way (moved_equation c.args.sides) (bindings_of c.args.store.now) r c.args.front.now.ahead.next c.args.front.now.waiting c.args.work.now v c.step_moved.ensures.equations c.step_moved.ensures.problems
     c.step_moved.new.ahead c.in_ok-step_moved.field-0 c.in_ok-step_moved.ensures.turn c.put_moved-in-Other.new.work c.in_ok-put_moved-in-Other.ensures.equations c.put_moved-in-Other.ensures.problems c.in-Other.is
 
 pub returns-in_ok-solved-in-Other-clause-goes_on : goal.returns-in_ok-solved-in-Other-clause-goes_on
@@ -81,5 +82,5 @@ returns-in_ok-solved-in-Other-clause-goes_on c =
     let g = c.in_ok-step_moved.ensures.goes_on in
     go_on_on a b (present c.by_moved_closures.new.store) c.args.work.now u c.by_moved_closures.new.work
     (go_on_on a b b c.args.work.now v u g
-    (go_same b v u (c.in_ok-put_moved-in-Other.ensures.below b.next (subst (λ n. IsMovedWaitingBelow n c.args.sides c.args.front.now.waiting) (sym g.next) c.requires.waiting)) c.put_moved-in-Other.ensures.taken))
+    (go_same b v u (c.in_ok-put_moved-in-Other.ensures.below b.next (subst (λ n. IsWaitingBelow (moved_equation c.args.sides) n c.args.front.now.waiting) (sym g.next) c.requires.waiting)) c.put_moved-in-Other.ensures.taken))
     c.in_ok-solved-in-Other.ensures.goes_on

@@ -9,7 +9,7 @@ use Rattle.ap_store.specs.Views.{bindings_of}
 use Rattle.ap_unify.proofs.PartLemmas.{bind_if_absent, clash_if_occurs}
 use Rattle.ap_rules.proofs.WorkLemmas.{if_ok}
 use Rattle.ap_unify.proofs.parts.bind_unless_occurs.Goals as goal
-use Rattle.ap_unify.specs.Parts.{IsRuleFor}
+use Rattle.ap_unify.specs.Parts.{IsRuleFor, parts_equation}
 use Rattle.ap_equations.specs.Plain.{plain_term}
 use Rattle.ap_rules.specs.Runs.{equation_under, problem_under}
 
@@ -21,7 +21,7 @@ returns-then-p-clause-turn c =
     let s = bindings_of c.args.store.now in
     let t = under s (plain_term c.args.p) in
     let e = c.requires.mark c.if-p.true c.args.x in
-    if_ok c.bind_part.result (λ turn h. λ f. subst (IsRuleFor turn f s (bindings_of c.bind_part.new.store)) (sym (bind_if_absent c.args.x t e)) (h f)) c.bind_part.ensures.turn
+    if_ok c.bind_part.result (λ turn h. λ f. subst (IsRuleFor parts_equation turn f s (bindings_of c.bind_part.new.store)) (sym (bind_if_absent c.args.x t e)) (h f)) c.bind_part.ensures.turn
 
 pub returns-then-occurs-clause-turn : goal.returns-then-occurs-clause-turn
 returns-then-occurs-clause-turn c = λ f es ps.
@@ -54,4 +54,4 @@ returns-clause-turn c =
     let s = bindings_of c.args.store.now in
     let t = under s (plain_term c.args.p) in
     let e = ap (λ (u : NominalTerm). occurs c.args.x (under s u)) (sym c.closure-c.ensures) ∙ sym c.in_ok-found.ensures.found ∙ sym c.occurs-2.ensures ∙ c.if-occurs.false in
-    if_ok c.bind_part-2.result (λ turn h. λ f. subst (IsRuleFor turn f s (bindings_of c.bind_part-2.new.store)) (sym (bind_if_absent c.args.x t e)) (h f)) c.bind_part-2.ensures.turn
+    if_ok c.bind_part-2.result (λ turn h. λ f. subst (IsRuleFor parts_equation turn f s (bindings_of c.bind_part-2.new.store)) (sym (bind_if_absent c.args.x t e)) (h f)) c.bind_part-2.ensures.turn

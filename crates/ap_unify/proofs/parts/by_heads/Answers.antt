@@ -3,7 +3,7 @@ use Rattle.ap_store.specs.Views.{bindings_of, present}
 use Rattle.ap_unify.proofs.PartLemmas.{bound_left, bound_right, head_form, head_free, nothing_below, nothing_marked}
 use Rattle.ap_rules.proofs.WorkLemmas.{if_ok}
 use Rattle.ap_unify.proofs.parts.by_heads.Goals as goal
-use Rattle.ap_unify.specs.Parts.{IsRuleFor}
+use Rattle.ap_unify.specs.Parts.{IsRuleFor, parts_equation}
 use Rattle.ap_equations.specs.Plain.{plain_term}
 
 pub returns-in-Form-Free-clause-turn : goal.returns-in-Form-Free-clause-turn
@@ -13,7 +13,7 @@ returns-in-Form-Free-clause-turn c =
     let r = plain_term c.args.ahead.now.next.right in
     let y = c.in-Form-Free.y in
     if_ok c.bind_unless_occurs.result
-    (λ turn h. subst (IsRuleFor turn c.args.ahead.now s (bindings_of c.bind_unless_occurs.new.store))
+    (λ turn h. subst (IsRuleFor parts_equation turn c.args.ahead.now s (bindings_of c.bind_unless_occurs.new.store))
     (bound_right s y l r (head_form s l c.args.left c.requires.left c.in-Form-Free.is-0) (head_free s r c.args.right y c.requires.right c.in-Form-Free.is-1)) (h c.args.ahead.now))
     c.bind_unless_occurs.ensures.turn
 
@@ -24,7 +24,7 @@ returns-in-Free-Form-clause-turn c =
     let r = plain_term c.args.ahead.now.next.right in
     let x = c.in-Free-Form.x in
     if_ok c.bind_unless_occurs-in-Free-Form.result
-    (λ turn h. subst (IsRuleFor turn c.args.ahead.now s (bindings_of c.bind_unless_occurs-in-Free-Form.new.store))
+    (λ turn h. subst (IsRuleFor parts_equation turn c.args.ahead.now s (bindings_of c.bind_unless_occurs-in-Free-Form.new.store))
     (bound_left s x l r (head_free s l c.args.left x c.requires.left c.in-Free-Form.is-0) (head_form s r c.args.right c.requires.right c.in-Free-Form.is-1)) (h c.args.ahead.now))
     c.bind_unless_occurs-in-Free-Form.ensures.turn
 

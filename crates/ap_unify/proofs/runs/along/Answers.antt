@@ -4,7 +4,7 @@ use Rattle.ap_store.specs.Views.{bindings_of, present, versions}
 use Rattle.ap_unify.proofs.ReachLemmas.{leads_less, then_reaches}
 use Rattle.ap_rules.proofs.WorkLemmas.{go_on_on, goes_on_on}
 use Rattle.ap_unify.proofs.runs.along.Goals as goal
-use Rattle.ap_unify.specs.Parts.{AreBelowBoth, AreWayMarksTrue, IsWaitingBelow, IsWayBelow, LeadsTo, progress_to, stage_of}
+use Rattle.ap_unify.specs.Parts.{AreBelowBoth, AreWayMarksTrue, IsWaitingBelow, IsWayBelow, LeadsTo, parts_equation, progress_to, stage_of}
 use Rattle.ap_rules.specs.Work.{progress_if, work_stage}
 use Rattle.ap_unify.specs.declared.fronts.Way.TheVariants as ways
 
@@ -13,18 +13,18 @@ returns-in-End-clause-stage c =
     let s = bindings_of c.next_way.new.store in
     let w = c.next_way.new.work in
     let f = c.next_way.new.front in
-    let before = stage_of (bindings_of c.going.store) c.going.front.ahead.next c.going.front.waiting c.going.work in
+    let before = stage_of parts_equation (bindings_of c.going.store) c.going.front.ahead.next c.going.front.waiting c.going.work in
     let p = progress_if c.in-End.goes_on (work_stage s w) in
-    c.going.invariant.leads p (subst (λ x. LeadsTo before (progress_to x s f w)) c.in-End.is c.in_ok-goes_on.ensures.stage)
+    c.going.invariant.leads p (subst (λ x. LeadsTo before (progress_to parts_equation x s f w)) c.in-End.is c.in_ok-goes_on.ensures.stage)
 
 pub going-smaller : goal.going-smaller
 going-smaller c =
     let s = bindings_of c.next_way.new.store in
     let w = c.next_way.new.work in
     let f = c.next_way.new.front in
-    let before = stage_of (bindings_of c.going.store) c.going.front.ahead.next c.going.front.waiting c.going.work in
-    let after = stage_of s f.ahead.next f.waiting w in
-    leads_less before after (subst (λ x. LeadsTo before (progress_to x s f w)) c.in-On.is c.in_ok-goes_on.ensures.stage)
+    let before = stage_of parts_equation (bindings_of c.going.store) c.going.front.ahead.next c.going.front.waiting c.going.work in
+    let after = stage_of parts_equation s f.ahead.next f.waiting w in
+    leads_less before after (subst (λ x. LeadsTo before (progress_to parts_equation x s f w)) c.in-On.is c.in_ok-goes_on.ensures.stage)
 
 pub going-preserved : goal.going-preserved
 going-preserved c =
@@ -34,16 +34,16 @@ going-preserved c =
     let s = bindings_of c.next_way.new.store in
     let w = c.next_way.new.work in
     let f = c.next_way.new.front in
-    let before = stage_of (bindings_of c.going.store) c.going.front.ahead.next c.going.front.waiting c.going.work in
-    let after = stage_of s f.ahead.next f.waiting w in
-    let e : LeadsTo before (next after) = subst (λ x. LeadsTo before (progress_to x s f w)) c.in-On.is c.in_ok-goes_on.ensures.stage in
+    let before = stage_of parts_equation (bindings_of c.going.store) c.going.front.ahead.next c.going.front.waiting c.going.work in
+    let after = stage_of parts_equation s f.ahead.next f.waiting w in
+    let e : LeadsTo before (next after) = subst (λ x. LeadsTo before (progress_to parts_equation x s f w)) c.in-On.is c.in_ok-goes_on.ensures.stage in
     let n = c.in_ok-goes_on.ensures.goes_on.next in
     let marks : AreWayMarksTrue s ways.On f = subst (λ x. AreWayMarksTrue s x f) c.in-On.is c.in_ok-goes_on.ensures.marks in
-    let below : IsWayBelow b.next ways.On f = subst (λ x. IsWayBelow b.next x f) c.in-On.is c.in_ok-goes_on.ensures.below in
+    let below : IsWayBelow parts_equation b.next ways.On f = subst (λ x. IsWayBelow parts_equation b.next x f) c.in-On.is c.in_ok-goes_on.ensures.below in
     record {
       leads = λ p h. c.going.invariant.leads p (then_reaches before after p e (inr h));
-      pair_below = subst (λ m. AreBelowBoth m f.ahead.next) (sym n) below.0;
-      waiting_below = subst (λ m. IsWaitingBelow m f.waiting) (sym n) below.1;
+      pair_below = subst (λ m. AreBelowBoth parts_equation m f.ahead.next) (sym n) below.0;
+      waiting_below = subst (λ m. IsWaitingBelow parts_equation m f.waiting) (sym n) below.1;
       pair_marks = marks.0;
       waiting_marks = marks.1;
       goes_on = go_on_on a b d c.args.work.now c.going.work w c.going.invariant.goes_on c.in_ok-goes_on.ensures.goes_on;

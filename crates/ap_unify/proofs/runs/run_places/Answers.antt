@@ -11,7 +11,7 @@ use Rattle.ap_unify.proofs.WellLemmas.{well}
 use Rattle.ap_rules.proofs.WorkLemmas.{below_first, go_on_on, goes_on_on, terms_length}
 use Rattle.ap_unify.proofs.runs.run_places.Goals as goal
 use Rattle.ap_unify.specs.Lists.{renamed_terms_in}
-use Rattle.ap_unify.specs.Parts.{AreBelowBoth, LeadsTo, stage_with}
+use Rattle.ap_unify.specs.Parts.{AreBelowBoth, LeadsTo, parts_equation, stage_with}
 use Rattle.ap_equations.specs.Plain.{plain_term}
 use Rattle.ap_rules.specs.Runs.{paired, stage_under}
 use Rattle.ap_rules.specs.Work.{ArePairsBelow, pair_equation, problems_met, progress_if, work_stage}
@@ -24,7 +24,7 @@ solve-requires-clause-below c =
     let us = renamed_terms_in c.args.right in
     let n = (present c.args.store.now).next in
     let pair : PlainPair = record { left = c.term_at-here.result; right = c.term_at-there.result } in
-    subst (λ m. AreBelowBoth m pair) (sym c.places.invariant.goes_on.next) (
+    subst (λ m. AreBelowBoth parts_equation m pair) (sym c.places.invariant.goes_on.next) (
       below_first n c.places.i ts (plain_term c.term_at-here.result) (drop (c.places.i + 1) ts) c.requires.left_made c.term_at-here.ensures.term,
       below_first n c.places.i us (plain_term c.term_at-there.result) (drop (c.places.i + 1) us) c.requires.right_made c.term_at-there.ensures.term,
     )
@@ -48,8 +48,8 @@ returns-then-not-branch-clause-ending c =
     let u = plain_term c.term_at-there.result in
     let last = work_stage (bindings_of c.solve.new.store) c.solve.new.work in
     let pair : PlainPair = record { left = c.term_at-here.result; right = c.term_at-there.result } in
-    let h : LeadsTo (stage_with s pair w) failed =
-    subst (λ v. LeadsTo (stage_with s pair w) (progress_if v last)) c.if-not-branch.true c.in_ok-solve.ensures.stage in
+    let h : LeadsTo (stage_with parts_equation s pair w) failed =
+    subst (λ v. LeadsTo (stage_with parts_equation s pair w) (progress_if v last)) c.if-not-branch.true c.in_ok-solve.ensures.stage in
     let k : LeadsTo (stage_under s ((t ≐ u) ∷ []) ps) failed =
     subst (λ (es : List ClosurePair). LeadsTo (stage_under s ((t ≐ u) ∷ map pair_equation (reverse es)) ps) failed) c.places.invariant.none h in
     c.places.invariant.ending
@@ -71,8 +71,8 @@ places-preserved c =
     let last = work_stage d.bindings v in
     let none : v.equations.items ≡ [] = c.in_ok-solve.ensures.left c.if-not-branch.false in
     let pair : PlainPair = record { left = c.term_at-here.result; right = c.term_at-there.result } in
-    let h : LeadsTo (stage_with b.bindings pair w) (next last) =
-    subst (λ x. LeadsTo (stage_with b.bindings pair w) (progress_if x last)) c.if-not-branch.false c.in_ok-solve.ensures.stage in
+    let h : LeadsTo (stage_with parts_equation b.bindings pair w) (next last) =
+    subst (λ x. LeadsTo (stage_with parts_equation b.bindings pair w) (progress_if x last)) c.if-not-branch.false c.in_ok-solve.ensures.stage in
     let k : LeadsTo (stage_under b.bindings ((t ≐ u) ∷ []) ps) (next last) =
     subst (λ (es : List ClosurePair). LeadsTo (stage_under b.bindings ((t ≐ u) ∷ map pair_equation (reverse es)) ps) (next last)) c.places.invariant.none h in
     let e : LeadsTo (stage_under b.bindings ((t ≐ u) ∷ []) ps) (next (stage_under d.bindings [] (problems_met v))) =

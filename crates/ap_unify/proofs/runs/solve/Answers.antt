@@ -5,12 +5,12 @@ use Rattle.ap_store.specs.Views.{bindings_of, present}
 use Rattle.ap_unify.proofs.ReachLemmas.{then_reaches}
 use Rattle.ap_rules.proofs.WorkLemmas.{go_on_on, if_ok}
 use Rattle.ap_unify.proofs.runs.solve.Goals as goal
-use Rattle.ap_unify.specs.Parts.{LeadsTo, stage_with}
+use Rattle.ap_unify.specs.Parts.{LeadsTo, parts_equation, stage_with}
 use Rattle.ap_rules.specs.Work.{ArePairsBelow, progress_if, work_stage}
 
 pub returns-then-not-branch-clause-stage : goal.returns-then-not-branch-clause-stage
 returns-then-not-branch-clause-stage c =
-    let first = stage_with (bindings_of c.args.store.now) c.args.pair c.args.work.now in
+    let first = stage_with parts_equation (bindings_of c.args.store.now) c.args.pair c.args.work.now in
     let s = work_stage (bindings_of c.along.new.store) c.along.new.work in
     subst (λ v. LeadsTo first (progress_if v s)) c.if-not-branch.true c.in_ok-along.ensures.stage
 
@@ -21,7 +21,7 @@ run-requires c =
 
 pub returns-clause-stage : goal.returns-clause-stage
 returns-clause-stage c =
-    let first = stage_with (bindings_of c.args.store.now) c.args.pair c.args.work.now in
+    let first = stage_with parts_equation (bindings_of c.args.store.now) c.args.pair c.args.work.now in
     let s = work_stage (bindings_of c.along.new.store) c.along.new.work in
     let last = work_stage (bindings_of c.run.new.store) c.run.new.work in
     let e : LeadsTo first (next s) = subst (λ v. LeadsTo first (progress_if v s)) c.if-not-branch.false c.in_ok-along.ensures.stage in

@@ -5,14 +5,14 @@ use Rattle.ap_rules.proofs.WorkLemmas.{go_on_on, go_same}
 use Rattle.ap_unify.proofs.ways.next_way.Goals as goal
 use Rattle.ap_unify.proofs.ReachLemmas.{leads_alike}
 use Rattle.ap_rules.specs.Work.{progress_if, work_stage}
-use Rattle.ap_unify.specs.Parts.{AreBelowBoth, AreTurnMarksTrue, IsTurnBelow, IsWaitingBelow, stage_of, stage_with}
+use Rattle.ap_unify.specs.Parts.{AreBelowBoth, AreTurnMarksTrue, IsTurnBelow, IsWaitingBelow, parts_equation, stage_of, stage_with}
 
 pub returns-in-Clash-clause-stage : goal.returns-in-Clash-clause-stage
 returns-in-Clash-clause-stage c =
     let r = bindings_of c.step_parts.new.store in
     let v = c.step_parts.new.work in (
       0,
-      sym (clash_way (bindings_of c.args.store.now) r c.args.front.now.ahead.next c.args.front.now.waiting c.args.work.now v c.step_parts.ensures.equations c.step_parts.ensures.problems
+      sym (clash_way parts_equation (bindings_of c.args.store.now) r c.args.front.now.ahead.next c.args.front.now.waiting c.args.work.now v c.step_parts.ensures.equations c.step_parts.ensures.problems
           c.step_parts.new.ahead c.in_ok-step_parts.field-0 c.in_ok-step_parts.ensures.turn c.in-Clash.is),
     )
 
@@ -21,13 +21,13 @@ returns-in-Done-clause-stage c =
     let r = bindings_of c.step_parts.new.store in
     let v = c.step_parts.new.work in (
       0,
-      sym (c.after_done.ensures.way r v
-          ∙ done_way (bindings_of c.args.store.now) r c.args.front.now.ahead.next c.args.front.now.waiting c.args.work.now v c.step_parts.ensures.equations c.step_parts.ensures.problems
+      sym (c.after_done.ensures.way parts_equation r v
+          ∙ done_way parts_equation (bindings_of c.args.store.now) r c.args.front.now.ahead.next c.args.front.now.waiting c.args.work.now v c.step_parts.ensures.equations c.step_parts.ensures.problems
           c.step_parts.new.ahead c.in_ok-step_parts.field-0 c.in_ok-step_parts.ensures.turn c.in-Done.is),
     )
 
 pub returns-in-Done-clause-below : goal.returns-in-Done-clause-below
-returns-in-Done-clause-below c = c.after_done.ensures.below (present c.args.store.now).next c.requires.waiting
+returns-in-Done-clause-below c = c.after_done.ensures.below parts_equation (present c.args.store.now).next c.requires.waiting
 
 pub returns-in-Done-clause-marks : goal.returns-in-Done-clause-marks
 returns-in-Done-clause-marks c =
@@ -39,14 +39,14 @@ returns-in-On-clause-stage c =
     let r = bindings_of c.step_parts.new.store in
     let v = c.step_parts.new.work in (
       0,
-      sym (on_way (bindings_of c.args.store.now) r c.args.front.now.ahead.next c.args.front.now.waiting c.args.work.now v c.step_parts.ensures.equations c.step_parts.ensures.problems
+      sym (on_way parts_equation (bindings_of c.args.store.now) r c.args.front.now.ahead.next c.args.front.now.waiting c.args.work.now v c.step_parts.ensures.equations c.step_parts.ensures.problems
           c.step_parts.new.ahead c.in_ok-step_parts.field-0 c.in_ok-step_parts.ensures.turn c.in-On.is),
     )
 
 pub returns-in-On-clause-below : goal.returns-in-On-clause-below
 returns-in-On-clause-below c =
     let n = (present c.args.store.now).next in
-    (subst (λ t. IsTurnBelow n t c.step_parts.new.ahead) c.in-On.is c.in_ok-step_parts.ensures.below, c.requires.waiting)
+    (subst (λ t. IsTurnBelow parts_equation n t c.step_parts.new.ahead) c.in-On.is c.in_ok-step_parts.ensures.below, c.requires.waiting)
 
 pub returns-in-On-clause-marks : goal.returns-in-On-clause-marks
 returns-in-On-clause-marks c =
@@ -63,14 +63,14 @@ returns-in_ok-put_waiting-in-Both-clause-marks c =
 pub returns-in_ok-put_waiting-in-Both-clause-below : goal.returns-in_ok-put_waiting-in-Both-clause-below
 returns-in_ok-put_waiting-in-Both-clause-below c =
     let n = (present c.args.store.now).next in
-    subst (λ t. IsTurnBelow n t c.step_parts.new.ahead) c.in-Both.is c.in_ok-step_parts.ensures.below
+    subst (λ t. IsTurnBelow parts_equation n t c.step_parts.new.ahead) c.in-Both.is c.in_ok-step_parts.ensures.below
 
 pub returns-in_ok-put_waiting-in-Both-clause-stage : goal.returns-in_ok-put_waiting-in-Both-clause-stage
 returns-in_ok-put_waiting-in-Both-clause-stage c =
     let r = bindings_of c.step_parts.new.store in
     let v = c.step_parts.new.work in (
       0,
-      sym (both_way (bindings_of c.args.store.now) r c.args.front.now.ahead.next c.args.front.now.waiting c.args.work.now v c.step_parts.ensures.equations c.step_parts.ensures.problems
+      sym (both_way parts_equation (bindings_of c.args.store.now) r c.args.front.now.ahead.next c.args.front.now.waiting c.args.work.now v c.step_parts.ensures.equations c.step_parts.ensures.problems
           c.step_parts.new.ahead c.in_ok-step_parts.field-0 c.in_ok-step_parts.ensures.turn c.put_waiting.new.work c.in_ok-put_waiting-in-Both.ensures.equations c.put_waiting.ensures.problems
           c.in-Both.is),
     )
@@ -83,22 +83,22 @@ returns-in_ok-put_waiting-in-Both-clause-goes_on c =
     let u = c.put_waiting.new.work in
     let g = c.in_ok-step_parts.ensures.goes_on in
     go_on_on a b b c.args.work.now v u g
-    (go_same b v u (c.in_ok-put_waiting-in-Both.ensures.below b.next (subst (λ n. IsWaitingBelow n c.args.front.now.waiting) (sym g.next) c.requires.waiting)) c.put_waiting.ensures.taken)
+    (go_same b v u (c.in_ok-put_waiting-in-Both.ensures.below b.next (subst (λ n. IsWaitingBelow parts_equation n c.args.front.now.waiting) (sym g.next) c.requires.waiting)) c.put_waiting.ensures.taken)
 
 pub by_closures-requires : goal.by_closures-requires
 by_closures-requires c =
     let f = c.step_parts.new.ahead in
-    let k : AreBelowBoth (present c.args.store.now).next f.next = subst (λ t. IsTurnBelow (present c.args.store.now).next t f) c.in-Other.is c.in_ok-step_parts.ensures.below in
-    record { below = subst (λ n. AreBelowBoth n f.next) (sym c.in_ok-step_parts.ensures.goes_on.next) k }
+    let k : AreBelowBoth parts_equation (present c.args.store.now).next f.next = subst (λ t. IsTurnBelow parts_equation (present c.args.store.now).next t f) c.in-Other.is c.in_ok-step_parts.ensures.below in
+    record { below = subst (λ n. AreBelowBoth parts_equation n f.next) (sym c.in_ok-step_parts.ensures.goes_on.next) k }
 
 pub returns-in_ok-solved-in-Other-clause-stage : goal.returns-in_ok-solved-in-Other-clause-stage
 returns-in_ok-solved-in-Other-clause-stage c =
     let r = bindings_of c.step_parts.new.store in
     let v = c.step_parts.new.work in
-    let before = stage_of (bindings_of c.args.store.now) c.args.front.now.ahead.next c.args.front.now.waiting c.args.work.now in
+    let before = stage_of parts_equation (bindings_of c.args.store.now) c.args.front.now.ahead.next c.args.front.now.waiting c.args.work.now in
     let p = progress_if c.in_ok-solved-in-Other.solved (work_stage (bindings_of c.by_closures.new.store) c.by_closures.new.work) in
-    leads_alike (stage_with r c.step_parts.new.ahead.next c.put_waiting-in-Other.new.work) before p
-    (other_way (bindings_of c.args.store.now) r c.args.front.now.ahead.next c.args.front.now.waiting c.args.work.now v c.step_parts.ensures.equations c.step_parts.ensures.problems
+    leads_alike (stage_with parts_equation r c.step_parts.new.ahead.next c.put_waiting-in-Other.new.work) before p
+    (other_way parts_equation (bindings_of c.args.store.now) r c.args.front.now.ahead.next c.args.front.now.waiting c.args.work.now v c.step_parts.ensures.equations c.step_parts.ensures.problems
     c.step_parts.new.ahead c.in_ok-step_parts.field-0 c.in_ok-step_parts.ensures.turn c.put_waiting-in-Other.new.work c.in_ok-put_waiting-in-Other.ensures.equations c.put_waiting-in-Other.ensures.problems c.in-Other.is)
     c.in_ok-solved-in-Other.ensures.stage
 
@@ -111,5 +111,5 @@ returns-in_ok-solved-in-Other-clause-goes_on c =
     let g = c.in_ok-step_parts.ensures.goes_on in
     go_on_on a b (present c.by_closures.new.store) c.args.work.now u c.by_closures.new.work
     (go_on_on a b b c.args.work.now v u g
-    (go_same b v u (c.in_ok-put_waiting-in-Other.ensures.below b.next (subst (λ n. IsWaitingBelow n c.args.front.now.waiting) (sym g.next) c.requires.waiting)) c.put_waiting-in-Other.ensures.taken))
+    (go_same b v u (c.in_ok-put_waiting-in-Other.ensures.below b.next (subst (λ n. IsWaitingBelow parts_equation n c.args.front.now.waiting) (sym g.next) c.requires.waiting)) c.put_waiting-in-Other.ensures.taken))
     c.in_ok-solved-in-Other.ensures.goes_on
