@@ -12,4 +12,5 @@ pub mod TextLemmas
 mod WritingLemmas
 pub mod WordLemmas
 pub mod FreeLemmas
+pub mod NumberedLemmas
 pub mod LocalLemmas

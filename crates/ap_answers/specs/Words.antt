@@ -1,5 +1,5 @@
 -- A set of words that are lent, and what is known of words that are generated.
-use Rattle.std.specs.Prelude.{◌≡◌, ℕ, ◌≤◌, ◌++◌, Bool, List, map, filter, not, codes, decimal, length}
+use Rattle.std.specs.Prelude.{◌≡◌, ℕ, ◌≤◌, ◌<◌, ◌^◌, ◌++◌, Bool, true, false, List, map, filter, not, codes, decimal, length}
 use Rattle.std.specs.Str.{bytes_eq}
 use Rattle.std.specs.List.{range_with_len}
 use Rattle.std.specs.HashSet.{HashSet, contains_by}
@@ -19,8 +19,12 @@ free_numbers letter words i n = filter (λ k. not (has_word (letter ++ decimal k
 abbrev pub numbered_words : List ℕ → List ℕ → List (List ℕ)
 numbered_words letter numbers = map (λ k. letter ++ decimal k) numbers
 
+-- a letter is no word with any number
+abbrev pub NoneNumbered : List ℕ → List (List ℕ) → Type 0
+NoneNumbered letter words = (n : ℕ) → n < 2 ^ 64 → has_word (letter ++ decimal n) words ≡ false
+
 abbrev pub AreFree : List ℕ → List (List ℕ) → Free → Type 0
-AreFree letter words f = (f.numbers.items ≡ free_numbers letter words 1 f.tried) × (f.tried ≤ length words)
+AreFree letter words f = (f.numbers.items ≡ free_numbers letter words 1 f.tried) × (f.tried ≤ length words) × (f.all ≡ true → NoneNumbered letter words)
 
 -- these are the words of the text
 abbrev pub IsTaken : List (List ℕ) → Taken → Type 0

@@ -15,6 +15,7 @@ use ap_defs::lists::Text;
 use ap_defs::memory::Memory;
 use ap_defs::terms::{Name, Term, Var};
 use indexmap::IndexSet;
+use itoa::Buffer;
 use std::alloc::Global;
 
 /// The texts of variables: as they are written, or as the numbers of `_1`, `_2` and so on, which take less room.
@@ -52,9 +53,9 @@ fn write_numbered_at(out: &mut Vec<u8>, numbers: &[u64], place: usize) -> Result
         ≡ out.old.items ++ text_at (numbered_words (codes "_") numbers.now) (Some place)) }
 {
     if let Some(number) = numbers.get(place) {
-        let alloc = *out.allocator();
-        let word = format!(in alloc; "_{number}")?;
-        out.extend_from_slice(word.as_bytes())?;
+        let mut digits = Buffer::new();
+        out.push(b'_')?;
+        out.extend_from_slice(digits.format(*number).as_bytes())?;
     }
     Ok(())
 }

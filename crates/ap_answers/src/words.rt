@@ -1,19 +1,21 @@
 //! Generated words.
 
-ghost use Rattle.std.specs.Prelude.{◌≡◌, ◌≤◌, ℕ, List as list, [], ◌∷◌, ◌++◌, false, not, codes, filter, decimal, length, take, IfOk, OnOk};
+ghost use Rattle.std.specs.Prelude.{◌≡◌, ◌≤◌, ◌<◌, ◌^◌, ℕ, List as list, [], ◌∷◌, ◌++◌, true, false, not, codes, filter, decimal, length, take, IfOk, OnOk};
 ghost use Rattle.ap_defs.specs.Printing.{has_word, new_words};
-ghost use Rattle.ap_answers.specs.Words.{knows, numbered_words, AreFree, IsTaken};
+ghost use Rattle.std.specs.Str.{bytes_eq};
+ghost use Rattle.ap_answers.specs.Words.{knows, numbered_words, NoneNumbered, AreFree, IsTaken};
 
 use ap_defs::lists::Text;
 use ap_defs::memory::Memory;
 use std::alloc::Global;
 use std::collections::HashSet;
 
-/// The numbers from 1 up to a number with which a letter is no word of a text.
+/// The numbers from 1 up to a number with which a letter is no word of a text. If `all`, it is none with any number.
 #[derive(Drop)]
 pub struct Free {
     pub numbers: Vec<u64>,
     pub tried: usize,
+    pub all: bool,
 }
 
 /// The words of a text, which are left out where words are generated. What of them begins as a generated
@@ -36,10 +38,20 @@ pub fn word_set<'a>(alloc: Global, words: &'a [Text]) -> Result<HashSet<&'a str>
     Ok(set)
 }
 
-/// Whether the word of a letter and a number is taken.
-fn is_taken(alloc: Global, letter: &str, number: u64, taken: &HashSet<&str>) -> Result<bool, Memory>
+/// Whether the word of a letter and a number is taken. It is looked up, unless all are known to be free.
+fn is_taken(
+    alloc: Global,
+    letter: &str,
+    number: u64,
+    taken: &HashSet<&str>,
+    all: bool,
+) -> Result<bool, Memory>
+    requires { all ≡ true → knows taken.now (letter.now ++ decimal number) ≡ false }
     ensures { IfOk result (λ b. b ≡ knows taken.now (letter.now ++ decimal number)) }
 {
+    if all {
+        return Ok(false);
+    }
     let word = format!(in alloc; "{letter}{number}")?;
     Ok(taken.contains(word.as_str()))
 }
@@ -51,15 +63,43 @@ fn keep_number(
     letter: &str,
     number: u64,
     taken: &HashSet<&str>,
+    all: bool,
 ) -> Result<(), Memory>
+    requires { all ≡ true → knows taken.now (letter.now ++ decimal number) ≡ false }
     ensures { OnOk result (numbers.new.items
         ≡ numbers.old.items
         ++ filter (λ n. not (knows taken.now (letter.now ++ decimal n))) (number ∷ [])) }
 {
-    if !is_taken(alloc, letter, number, taken)? {
+    if !is_taken(alloc, letter, number, taken, all)? {
         numbers.push(number)?;
     }
     Ok(())
+}
+
+/// Whether a word may be a letter with a number behind it: only if it begins like the letter and is longer.
+fn may_be_numbered(letter: &str, word: &str) -> bool
+    ensures { result ≡ false → (n : ℕ) → n < 2 ^ 64 →
+        bytes_eq (letter.now ++ decimal n) word.now ≡ false }
+{
+    if word.len() <= letter.len() {
+        return false;
+    }
+    match (letter.as_bytes(), word.as_bytes()) {
+        ([first, ..], [own, ..]) => *first == *own,
+        _ => true,
+    }
+}
+
+/// Whether no word is a letter with a number, which is seen by how words begin.
+fn are_free(letter: &str, words: &[Text]) -> bool
+    ensures { result ≡ true → NoneNumbered letter.now words.now }
+{
+    for word in words {
+        if may_be_numbered(letter, word.as_str()) {
+            return false;
+        }
+    }
+    true
 }
 
 /// How many of the words begin with a letter.
@@ -87,11 +127,16 @@ fn free_numbers(
     ensures { IfOk result (λ f. AreFree letter.now words.now f) }
 {
     let tried = count_beginning(letter, words);
+    let all = are_free(letter, words);
     let mut numbers = Vec::new(alloc);
     for i in 0..tried {
-        keep_number(alloc, &mut numbers, letter, i as u64 + 1, taken)?;
+        keep_number(alloc, &mut numbers, letter, i as u64 + 1, taken, all)?;
     }
-    Ok(Free { numbers, tried })
+    Ok(Free {
+        numbers,
+        tried,
+        all,
+    })
 }
 
 /// The words of a text, as those that are left out where words are generated.
@@ -142,7 +187,7 @@ pub fn generated_numbers(
         if numbers.len() == count {
             break;
         }
-        keep_number(alloc, &mut numbers, letter, i as u64 + 1, taken)?;
+        keep_number(alloc, &mut numbers, letter, i as u64 + 1, taken, free.all)?;
     }
     Ok(numbers)
 }
