@@ -1,10 +1,10 @@
 -- Equations that wait behind others do not change how these are rewritten.
 use Rattle.std.proofs.Common.{◌≡◌, ◌≢◌, ℕ, zero, suc, ◌+◌, false, ◌||◌, List, [], ◌∷◌, ◌++◌, append_assoc, map, refl, sym, subst, ap, ap₂, ◌∙◌}
 use Rattle.std.proofs.lemmas.List.{map-append}
-use Rattle.ap_defs.specs.Freshness.{var_eq}
+use Rattle.ap_defs.specs.Freshness.{Conds, var_eq}
 use Rattle.ap_defs.specs.Substitution.{Binding, Equation, Problem, occurs, put_binding, put_equation, put_problem, ◌:=◌, ◌≐◌}
 use Rattle.ap_defs.specs.Terms.{NominalTerm}
-use Rattle.ap_defs.specs.Unification.{Progress, Rule, Stage, apply_rule, bind, clash, done, ending, failed, next, replace, rule, size, step_of, unsolvable}
+use Rattle.ap_defs.specs.Unification.{Progress, Rule, Stage, apply_rule, bind, clash, done, ending, failed, finish, next, replace, rule, size, step_of, unsolvable}
 use Rattle.ap_defs.specs.declared.terms.Var.{Var}
 use Rattle.ap_theory.proofs.IdempotenceLemmas.{under_each}
 use Rattle.ap_theory.proofs.TermLemmas.{var_eq_flip}
@@ -13,7 +13,7 @@ use Rattle.ap_theory.proofs.VariableLemmas.{EachEquation, each_equation-append, 
 use Rattle.ap_theory.specs.Variables.{EachVar, IsIdempotent, IsUnbound, is_bound}
 use Rattle.ap_unify.proofs.ReachLemmas.{leads_ending, leads_failed}
 use Rattle.ap_rules.proofs.RunLemmas.{bound_in, equations_put}
-use Rattle.ap_unify.specs.Parts.{IsReached, LeadsTo}
+use Rattle.ap_unify.specs.Parts.{IsAlike, IsReached, LeadsTo}
 use Rattle.ap_rules.specs.Runs.{equation_under, stage_under}
 
 module _ (x : Var) (v : NominalTerm) where
@@ -81,15 +81,25 @@ module _ (rest : List Equation) where
       let f : IsFine m = subst IsFineAfter e (fine_after s.equations s.problems s.bindings h) in
       (behind m, behind_step s.equations s.problems s.bindings (next m) h tt e, reached_behind n m p f d k)
 
+  behind_alike : (q p : Progress) → IsAlike q p → IsAlike (behind_after q) (behind_after p)
+  behind_alike q done h = ap behind_after h
+  behind_alike q failed h = ap behind_after h
+  behind_alike q (next s) (ps, e, h) = (ps, ap behind_after e, h)
+
+  alike_not_done : (q p : Progress) → IsAlike q p → IsNotDone p → IsNotDone q
+  alike_not_done q done h d = absurd d
+  alike_not_done q failed h d = subst IsNotDone (sym h) tt
+  alike_not_done q (next s) (ps, e, h) d = subst IsNotDone (sym e) tt
+
   leads_behind : (s : Stage) (p : Progress) → IsFine s → IsNotDone p → LeadsTo s p → LeadsTo (behind s) (behind_after p)
-  leads_behind s p h d (n, k) = (n, reached_behind n s p h d k)
+  leads_behind s p h d (n, q, k, a) = (n, behind_after q, reached_behind n s q h (alike_not_done q p a d) k, behind_alike q p a)
 
   -- An equation in front of the rest is rewritten until the rest alone is left, or until there is no solution.
   module _ (s : List Binding) (idempotent : IsIdempotent s) (t u : NominalTerm) (ps : List Problem) where
     pub front_ending : (r : List Binding) (qs : List Problem) → LeadsTo (stage_under s ((t ≐ u) ∷ []) ps) (next (stage_under r [] qs))
-        → ending (stage_under s ((t ≐ u) ∷ rest) ps) ≡ ending (stage_under r rest qs)
-    front_ending r qs h =
-        leads_ending (stage_under s ((t ≐ u) ∷ rest) ps) (stage_under r rest qs)
+        → (ds : Conds) → finish ds (ending (stage_under s ((t ≐ u) ∷ rest) ps)) ≡ finish ds (ending (stage_under r rest qs))
+    front_ending r qs h ds =
+        leads_ending ds (stage_under s ((t ≐ u) ∷ rest) ps) (stage_under r rest qs)
         (leads_behind (stage_under s ((t ≐ u) ∷ []) ps) (next (stage_under r [] qs)) ((under_each s idempotent t, under_each s idempotent u), tt) tt h)
 
     pub front_failed : LeadsTo (stage_under s ((t ≐ u) ∷ []) ps) failed → ending (stage_under s ((t ≐ u) ∷ rest) ps) ≡ unsolvable

@@ -1,4 +1,6 @@
+pub mod AlikeLemmas
 pub mod BehindLemmas
+pub mod BinderLemmas
 pub mod FinishLemmas
 pub mod FreshLemmas
 pub mod MovedLemmas

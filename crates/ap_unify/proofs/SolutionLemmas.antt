@@ -17,7 +17,7 @@ use Rattle.ap_theory.specs.StatementsOnConditions.{collected}
 use Rattle.ap_theory.specs.Variables.{EachCond, IsIdempotent, IsUnbound}
 use Rattle.ap_unify.proofs.FinishLemmas.{finish_kept, kept_collected, made}
 use Rattle.ap_rules.proofs.RunLemmas.{first_under}
-use Rattle.ap_unify.specs.Finishing.{some_if, with_kept}
+use Rattle.ap_unify.specs.Finishing.{EndsAs, some_if, with_kept}
 use Rattle.ap_rules.specs.Runs.{paired, stage_under}
 use Rattle.ap_unify.specs.Unified.{IsResult}
 use Rattle.ap_rules.specs.Work.{AreKept, pair_equation, problems_met, work_stage}
@@ -54,16 +54,16 @@ on_unbound a (c ∷ cs) h k = ((h.0.0, h.0.1, k.0), on_unbound a cs h.1 k.1)
 -- A run from the triple a has come to the triple b.
 module _ (a b : Triple) (ts us : List NominalTerm) (ps : List Problem) (taken : List Cond) (well : IsWell a) (well_after : IsWell b) where
   -- a run with no solution
-  pub none_unified : ending (stage_under a.bindings (paired ts us) []) ≡ unsolvable → unify a.bindings a.conditions ts us ≡ None
+  pub none_unified : EndsAs (stage_under a.bindings (paired ts us) []) unsolvable → unify a.bindings a.conditions ts us ≡ None
   unfolding unify
-  none_unified e = ap (finish a.conditions) (ap ending (first_under a.bindings ts us) ∙ e)
+  none_unified e = ap (finish a.conditions) (ap ending (first_under a.bindings ts us)) ∙ e a.conditions
 
-  module _ (run : ending (stage_under a.bindings (paired ts us) []) ≡ solved (stage_under b.bindings [] ps)) (kept : AreKept a.conditions b.conditions taken) where
+  module _ (run : EndsAs (stage_under a.bindings (paired ts us) []) (solved (stage_under b.bindings [] ps))) (kept : AreKept a.conditions b.conditions taken) where
     -- the result of the rules
     pub unified_by_end : unify a.bindings a.conditions ts us ≡ made b.bindings (with_kept b.conditions (reduce_all b.bindings (map problem_of taken ++ ps)))
     unfolding unify
     unified_by_end =
-        ap (finish a.conditions) (ap ending (first_under a.bindings ts us) ∙ run)
+        ap (finish a.conditions) (ap ending (first_under a.bindings ts us)) ∙ run a.conditions
         ∙ finish_kept b.conditions well_after.set b.bindings well_after.idempotent well_after.unbound a.conditions taken kept ps
 
     -- what problems and conditions reduce to may be added
@@ -90,7 +90,7 @@ module _ (a b : Triple) (ts us : List NominalTerm) (ps : List Problem) (taken : 
         same_parts d bs m p q = rw (← p, ← q) refl
 
   -- no solution of the equations
-  pub is_no_result : (c : Triple) → ending (stage_under a.bindings (paired ts us) []) ≡ unsolvable → IsResult (unify a.bindings a.conditions ts us) a false c
+  pub is_no_result : (c : Triple) → EndsAs (stage_under a.bindings (paired ts us) []) unsolvable → IsResult (unify a.bindings a.conditions ts us) a false c
   is_no_result c e = subst (λ (o : Option Unified). IsResult o a false c) (sym (none_unified e)) refl
 
 -- The last work of a run, and what is kept at first.

@@ -3,10 +3,11 @@ use Rattle.std.proofs.Common.{◌≡◌, ◌++◌, ◌∷◌, List, map, refl, r
 use Rattle.std.specs.Prelude.{Option, Some, None}
 use Rattle.ap_defs.specs.Substitution.{Binding, Equation, Problem, under, ◌≐◌}
 use Rattle.ap_defs.specs.Terms.{NominalTerm}
-use Rattle.ap_defs.specs.Unification.{Progress, apply_rule, failed, next, step}
+use Rattle.ap_defs.specs.Unification.{Progress, Stage, apply_rule, failed, next, step}
 use Rattle.ap_store.specs.Marks.{HasNoVars}
 use Rattle.ap_equations.specs.Plain.{plain_term}
-use Rattle.ap_unify.specs.Parts.{AreMarksTrue, AreWaitingMarksTrue, IsRuleFor, PairReading, rule_of, rule_under, stage_of, stage_with, waiting_equations}
+use Rattle.ap_unify.proofs.ReachLemmas.{leads_alike, leads_now}
+use Rattle.ap_unify.specs.Parts.{AreMarksTrue, AreWaitingMarksTrue, IsRuleFor, LeadsTo, PairReading, rule_of, rule_under, stage_of, stage_with, waiting_equations}
 use Rattle.ap_rules.specs.Runs.{equation_under, problem_under, stage_under}
 use Rattle.ap_rules.specs.Work.{equations_left, pair_equation, problem_for, problems_met}
 use Rattle.ap_rules.specs.declared.pairs.Work.{Work}
@@ -30,10 +31,10 @@ rule_first : (s : List Binding) (e : Equation) (es : List Equation) (ps : List P
 rule_first s (t ≐ u) es ps = refl
 
 module _ (q : PairReading) (s r : List Binding) (pair : PlainPair) (o : Option PlainPair) (w v : Work) (e : v.equations.items ≡ w.equations.items) (f : v.problems.items ≡ w.problems.items) where
-  abbrev stepped : Progress
-  stepped = step (stage_of q s pair o w)
+  abbrev before : Stage
+  before = stage_of q s pair o w
 
-  same_behind : apply_rule (rule_of q s pair) (map (equation_under s) (waiting_equations q o ++ equations_left v)) (map (problem_under s) (problems_met v)) s ≡ stepped
+  same_behind : apply_rule (rule_of q s pair) (map (equation_under s) (waiting_equations q o ++ equations_left v)) (map (problem_under s) (problems_met v)) s ≡ step before
   same_behind =
       rule_first s (q pair) (waiting_equations q o ++ equations_left v) (problems_met v)
       ∙ ap₂ (λ es ps. step (stage_under s (q pair ∷ (waiting_equations q o ++ map pair_equation (reverse es))) (map problem_for ps))) e f
@@ -42,28 +43,35 @@ module _ (q : PairReading) (s r : List Binding) (pair : PlainPair) (o : Option P
     turned : (t : Turn) → turn ≡ t → IsRuleFor q t ahead s r (rule_of q s pair)
     turned t k = subst (λ x. IsRuleFor q x ahead s r (rule_of q s pair)) k h
 
-    pub clash_way : turn ≡ turns.Clash → failed ≡ stepped
-    clash_way k = turned turns.Clash k (waiting_equations q o ++ equations_left v) (problems_met v) ∙ same_behind
+    leads_by : (p : Progress) → p ≡ step before → LeadsTo before p
+    leads_by p k = leads_now before p (sym k)
 
-    pub done_way : turn ≡ turns.Done → next (stage_under r (waiting_equations q o ++ equations_left v) (problems_met v)) ≡ stepped
-    done_way k = turned turns.Done k (waiting_equations q o ++ equations_left v) (problems_met v) ∙ same_behind
+    pub clash_way : turn ≡ turns.Clash → LeadsTo before failed
+    clash_way k = leads_by failed (turned turns.Clash k (waiting_equations q o ++ equations_left v) (problems_met v) ∙ same_behind)
 
-    pub on_way : turn ≡ turns.On → next (stage_of q r ahead.next o v) ≡ stepped
-    on_way k = turned turns.On k (waiting_equations q o ++ equations_left v) (problems_met v) ∙ same_behind
+    pub done_way : turn ≡ turns.Done → LeadsTo before (next (stage_under r (waiting_equations q o ++ equations_left v) (problems_met v)))
+    done_way k =
+        leads_by (next (stage_under r (waiting_equations q o ++ equations_left v) (problems_met v)))
+        (turned turns.Done k (waiting_equations q o ++ equations_left v) (problems_met v) ∙ same_behind)
+
+    pub on_way : turn ≡ turns.On → LeadsTo before (next (stage_of q r ahead.next o v))
+    on_way k = leads_by (next (stage_of q r ahead.next o v)) (turned turns.On k (waiting_equations q o ++ equations_left v) (problems_met v) ∙ same_behind)
 
     -- once the one that waits is put to the others
     module _ (u : Work) (g : equations_left u ≡ waiting_equations q o ++ equations_left v) (i : u.problems.items ≡ v.problems.items) where
-      pub both_way : turn ≡ turns.Both → next (stage_of q r ahead.next (Some ahead.later) u) ≡ stepped
+      pub both_way : turn ≡ turns.Both → LeadsTo before (next (stage_of q r ahead.next (Some ahead.later) u))
       both_way k =
-          ap₂ (λ es ps. next (stage_under r (q ahead.next ∷ q ahead.later ∷ es) (map problem_for ps))) g i
-          ∙ turned turns.Both k (waiting_equations q o ++ equations_left v) (problems_met v) ∙ same_behind
+          leads_by (next (stage_of q r ahead.next (Some ahead.later) u))
+          (ap₂ (λ es ps. next (stage_under r (q ahead.next ∷ q ahead.later ∷ es) (map problem_for ps))) g i
+          ∙ turned turns.Both k (waiting_equations q o ++ equations_left v) (problems_met v) ∙ same_behind)
 
-      pub other_way : turn ≡ turns.Other → step (stage_with q r ahead.next u) ≡ stepped
-      other_way k =
+      pub other_way : turn ≡ turns.Other → (p : Progress) → LeadsTo (stage_with q r ahead.next u) p → LeadsTo before p
+      other_way k p =
           let es = map (equation_under s) (waiting_equations q o ++ equations_left v) in
           let ps = map (problem_under s) (problems_met v) in
           let m = turned turns.Other k in
-          ap₂ (λ ds xs. step (stage_under r (q ahead.next ∷ ds) (map problem_for xs))) g i
+          leads_alike (stage_with q r ahead.next u) before p
+          (ap₂ (λ ds xs. step (stage_under r (q ahead.next ∷ ds) (map problem_for xs))) g i
           ∙ ap (λ b. step (stage_under b (q ahead.next ∷ (waiting_equations q o ++ equations_left v)) (problems_met v))) m.0
           ∙ sym (rule_first s (q ahead.next) (waiting_equations q o ++ equations_left v) (problems_met v))
-          ∙ ap (λ x. apply_rule x es ps s) m.1 ∙ same_behind
+          ∙ ap (λ x. apply_rule x es ps s) m.1 ∙ same_behind)

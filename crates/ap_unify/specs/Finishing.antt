@@ -1,8 +1,9 @@
 -- What problems reduce to at the end of a run.
 use Rattle.std.specs.Global.{Global}
-use Rattle.std.specs.Prelude.{Bool, true, false, List, Option, Some, None, Vec}
+use Rattle.std.specs.Prelude.{◌≡◌, Bool, true, false, List, Option, Some, None, Vec}
 use Rattle.ap_defs.specs.Freshness.{Conds, add_conds, reduce}
 use Rattle.ap_defs.specs.Substitution.{Binding, Problem, under, ◌#◌}
+use Rattle.ap_defs.specs.Unification.{Ending, Stage, ending, finish}
 use Rattle.ap_defs.specs.declared.terms.Cond.{Cond}
 
 -- the conditions of a problem under bindings
@@ -22,3 +23,7 @@ with_kept kept (Some cs) = Some (add_conds cs kept)
 abbrev pub items_in : {A : Type 0} → Option (Vec A Global) → Option (List A)
 items_in None = None
 items_in (Some v) = Some v.items
+
+-- whatever the conditions are, a run from the stage gives the result that this end gives
+abbrev pub EndsAs : Stage → Ending → Type 0
+EndsAs s e = (ds : Conds) → finish ds (ending s) ≡ finish ds e

@@ -3,7 +3,7 @@ use Rattle.std.specs.Prelude.{◌≡◌, ◌<◌, ◌⊎◌, ℕ, zero, suc, tru
 use Rattle.ap_defs.specs.Renaming.{IsBelow}
 use Rattle.ap_defs.specs.Substitution.{Binding, Equation, Problem, under, ◌≐◌}
 use Rattle.ap_defs.specs.Terms.{NominalTerm, susp}
-use Rattle.ap_defs.specs.Unification.{Progress, Rule, Stage, apply_rule, failed, next, rule, step}
+use Rattle.ap_defs.specs.Unification.{Progress, Rule, Stage, apply_rule, failed, next, reduce_all, rule, step}
 use Rattle.ap_defs.specs.declared.terms.Var.{Var}
 use Rattle.ap_perm.specs.Lookups.{depth_of}
 use Rattle.ap_store.specs.Triples.{Triple}
@@ -145,8 +145,17 @@ abbrev pub IsReached : ℕ → Stage → Progress → Type 0
 IsReached zero s p = step s ≡ p
 IsReached (suc n) s p = (r : Stage) × (step s ≡ next r) × IsReached n r p
 
+abbrev pub with_problems : List Problem → Stage → Stage
+with_problems ps s = record { equations = s.equations; problems = ps; bindings = s.bindings }
+
+-- the same, but for problems that reduce to the same conditions
+abbrev pub IsAlike : Progress → Progress → Type 0
+IsAlike p (next s) = (ps : List Problem) × (p ≡ next (with_problems ps s)) × (reduce_all [] ps ≡ reduce_all [] s.problems)
+IsAlike p q = p ≡ q
+
+-- by one step or several, where problems may be kept as others that reduce to the same
 abbrev pub LeadsTo : Stage → Progress → Type 0
-LeadsTo s p = (n : ℕ) × IsReached n s p
+LeadsTo s p = (n : ℕ) × (q : Progress) × IsReached n s q × IsAlike q p
 
 -- by no step, or by one or several
 abbrev pub Reaches : Stage → Progress → Type 0

@@ -1,6 +1,7 @@
 //! Nominal unification, after Urban, Pitts and Gabbay.
 #![tactic(auto)]
 
+mod binders;
 mod finish;
 pub mod fresh;
 mod fronts;

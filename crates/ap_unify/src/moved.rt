@@ -27,18 +27,18 @@ use ap_equations::plain::{Plain, PlainPair};
 use ap_equations::work::bind_var;
 use ap_perm::closures::Closure;
 use ap_perm::joining::numbered;
-use ap_perm::swappings::image;
-use ap_rules::moves::moved_back;
+use ap_perm::swappings::preimage;
 use ap_rules::pairs::Work;
 use ap_store::heads::head_key;
 use ap_store::store::Store;
 use std::alloc::Global;
 
-/// The swappings that wait on the parts of the left side, and on those of the right side.
-#[derive(Clone, Copy)]
-pub struct Sides<'s> {
-    pub left: &'s [Swap],
-    pub right: &'s [Swap],
+/// The swappings that wait on the parts of the left side, and on those of the right side, the first
+/// innermost: one that is to act after the others is put behind them.
+#[derive(Drop)]
+pub struct Sides {
+    pub left: Vec<Swap>,
+    pub right: Vec<Swap>,
 }
 
 /// As `headed`, where a suspension stands at the head; all else stays as it is. It takes no memory.
@@ -60,38 +60,56 @@ fn head_within<'a>(store: &Store<'a>, p: Plain<'a>) -> PartWithHead<'a>
     }
 }
 
-/// The closure of a part on which swappings wait.
+/// The closure of a part on which swappings wait, the first innermost.
+#[tactic(auto, using(ap_rules::proofs::MoveLemmas::reverse_inverse))]
 pub fn moved_closure<'a>(alloc: Global, swaps: &[Swap], p: Plain<'a>) -> Result<Closure<'a>, Memory>
-    ensures { IfOk result (λ c. closure_term c ≡ act_term swaps.now (plain_term p.entry)) }
+    ensures { IfOk result (λ c. closure_term c
+        ≡ act_term (inverse swaps.now) (plain_term p.entry)) }
 {
-    let c = p.closure(alloc);
-    c.moved_by(alloc, swaps)
+    let mut waiting = swaps.to_vec(alloc)?;
+    waiting.reverse();
+    Ok(Closure {
+        swaps: waiting,
+        base: p.base,
+        end: p.end,
+        term: p.term,
+    })
+}
+
+/// A name of a part on which swappings wait, the first innermost: numbered as the part is, and moved.
+pub fn name_within(swaps: &[Swap], p: Plain<'_>, a: Name) -> Name
+    requires { p.base + a.num < p.end }
+    ensures { result ≡ act_name (inverse swaps.now) (rename_name p.entry.base a) }
+{
+    // `end` fits in a u64, so the sum below it does.
+    let _end = p.end;
+    preimage(swaps, numbered(p.base, a))
 }
 
 /// Whether two names are equal once they are numbered as two parts are, and moved as these are.
 #[tactic(auto, unfolding(ap_defs::specs::Permutations::name_eq))]
-fn same_image(sides: Sides<'_>, left: Plain<'_>, a: Name, right: Plain<'_>, b: Name) -> bool
+fn same_image(sides: &Sides, left: Plain<'_>, a: Name, right: Plain<'_>, b: Name) -> bool
     requires left { left.base + a.num < left.end }
     requires right { right.base + b.num < right.end }
-    ensures { result ≡ name_eq (act_name sides.entry.left.now (rename_name left.entry.base a))
-        (act_name sides.entry.right.now (rename_name right.entry.base b)) }
+    ensures { result
+        ≡ name_eq (act_name (inverse sides.now.left.items) (rename_name left.entry.base a))
+        (act_name (inverse sides.now.right.items) (rename_name right.entry.base b)) }
 {
-    // Each `end` fits in a u64, so the sum below it does.
-    let _end = left.end;
-    let _other_end = right.end;
-    image(sides.left, numbered(left.base, a)) == image(sides.right, numbered(right.base, b))
+    let a = name_within(&sides.left, left, a);
+    let b = name_within(&sides.right, right, b);
+    a == b
 }
 
 /// The rule for the two parts that come next, neither of them a suspension. It leaves abstractions with
 /// different binders to another way.
-fn moved_forms(sides: Sides<'_>, ahead: &mut Ahead<'_>) -> Turn
+fn moved_forms(sides: &Sides, ahead: &mut Ahead<'_>) -> Turn
     requires left_form { HasForm (plain_term ahead.old.next.left) }
     requires right_form { HasForm (plain_term ahead.old.next.right) }
     ensures turn { (s : list Binding) →
-        IsRuleFor (moved_equation sides.entry) result ahead.new s s
-        (rule_of (moved_equation sides.entry) s ahead.old.next) }
-    ensures below { (n : ℕ) → AreBelowBoth (moved_equation sides.entry) n ahead.old.next →
-        IsTurnBelow (moved_equation sides.entry) n result ahead.new }
+        IsRuleFor (moved_equation sides.now) result ahead.new s s
+        (rule_of (moved_equation sides.now) s ahead.old.next) }
+    ensures below { (n : ℕ) → AreBelowBoth (moved_equation sides.now) n ahead.old.next →
+        IsTurnBelow (moved_equation sides.now) n result ahead.new }
 {
     let pair = ahead.next;
     let PlainPair { left, right } = pair;
@@ -140,9 +158,8 @@ fn moved_forms(sides: Sides<'_>, ahead: &mut Ahead<'_>) -> Turn
     }
 }
 
-/// Binds an unbound variable to a closure on which the inverse of the swappings acts that wait on the variable,
-/// unless it occurs there.
-#[tactic(auto, using(ap_rules::proofs::MoveLemmas::moved_under, ap_rules::proofs::MoveLemmas::back_below, ap_rules::proofs::MoveLemmas::back_absent))]
+/// Binds an unbound variable to a closure on which swappings act, the first outermost, unless it occurs there.
+/// They undo those that wait on the variable.
 fn bind_back<'a>(
     alloc: Global,
     store: &mut Store<'a>,
@@ -158,7 +175,7 @@ fn bind_back<'a>(
     ensures turn { IfOk result (λ turn. (m : Sides) (f : Ahead) →
         IsRuleFor (moved_equation m) turn f (bindings_of store.old) (bindings_of store.new)
         (unless_occurs x (meaning_in store.old c.entry)
-        (act_term (inverse p.now) (meaning_in store.old c.entry)))) }
+        (act_term p.now (meaning_in store.old c.entry)))) }
     ensures below { IfOk result (λ turn. (m : Sides) (f : Ahead) →
         IsTurnBelow (moved_equation m) (present store.old).next turn f) }
     ensures equations { work.new.equations.items ≡ work.old.equations.items }
@@ -171,8 +188,8 @@ fn bind_back<'a>(
     if found.occurs() {
         return Ok(Turn::Clash);
     }
-    let moved = moved_back(alloc, p, c)?;
-    bind_var(alloc, store, work, x, moved, found.is_ground())?;
+    let moved = c.moved_by(alloc, p)?;
+    bind_var(alloc, store, work, x, moved.settled(), found.is_ground())?;
     Ok(Turn::Done)
 }
 
@@ -181,19 +198,20 @@ fn by_moved_heads<'a>(
     alloc: Global,
     store: &mut Store<'a>,
     work: &mut Work<'a>,
-    sides: Sides<'_>,
+    sides: &Sides,
     ahead: &mut Ahead<'a>,
     left: Head,
     right: Head,
 ) -> Result<Turn, Memory>
     requires left { IsHead (bindings_of store.old) (plain_term ahead.old.next.left) left }
     requires right { IsHead (bindings_of store.old) (plain_term ahead.old.next.right) right }
-    requires below { AreBelowBoth (moved_equation sides) (present store.old).next ahead.old.next }
-    ensures turn { IfOk result (λ turn. IsRuleFor (moved_equation sides.entry) turn ahead.new
+    requires below { AreBelowBoth (moved_equation sides.now) (present store.old).next
+        ahead.old.next }
+    ensures turn { IfOk result (λ turn. IsRuleFor (moved_equation sides.now) turn ahead.new
         (bindings_of store.old) (bindings_of store.new)
-        (rule_of (moved_equation sides.entry) (bindings_of store.old) ahead.old.next)) }
+        (rule_of (moved_equation sides.now) (bindings_of store.old) ahead.old.next)) }
     ensures below { IfOk result (λ turn.
-        IsTurnBelow (moved_equation sides.entry) (present store.old).next turn ahead.new) }
+        IsTurnBelow (moved_equation sides.now) (present store.old).next turn ahead.new) }
     ensures equations { work.new.equations.items ≡ work.old.equations.items }
     ensures problems { work.new.problems.items ≡ work.old.problems.items }
     ensures goes_on { OnOk result (GoOn (present store.old) work.old (present store.new) work.new) }
@@ -203,12 +221,12 @@ fn by_moved_heads<'a>(
     match (left, right) {
         (Head::Form, Head::Form) => Ok(moved_forms(sides, ahead)),
         (Head::Free(x), Head::Form) => {
-            let c = moved_closure(alloc, sides.right, ahead.next.right)?;
-            bind_back(alloc, store, work, sides.left, x, c)
+            let c = moved_closure(alloc, &sides.right, ahead.next.right)?;
+            bind_back(alloc, store, work, &sides.left, x, c)
         }
         (Head::Form, Head::Free(y)) => {
-            let c = moved_closure(alloc, sides.left, ahead.next.left)?;
-            bind_back(alloc, store, work, sides.right, y, c)
+            let c = moved_closure(alloc, &sides.left, ahead.next.left)?;
+            bind_back(alloc, store, work, &sides.right, y, c)
         }
         _ => Ok(Turn::Other),
     }
@@ -220,15 +238,16 @@ pub fn step_moved<'a>(
     alloc: Global,
     store: &mut Store<'a>,
     work: &mut Work<'a>,
-    sides: Sides<'_>,
+    sides: &Sides,
     ahead: &mut Ahead<'a>,
 ) -> Result<Turn, Memory>
-    requires below { AreBelowBoth (moved_equation sides) (present store.old).next ahead.old.next }
-    ensures turn { IfOk result (λ turn. IsRuleFor (moved_equation sides.entry) turn ahead.new
+    requires below { AreBelowBoth (moved_equation sides.now) (present store.old).next
+        ahead.old.next }
+    ensures turn { IfOk result (λ turn. IsRuleFor (moved_equation sides.now) turn ahead.new
         (bindings_of store.old) (bindings_of store.new)
-        (rule_of (moved_equation sides.entry) (bindings_of store.old) ahead.old.next)) }
+        (rule_of (moved_equation sides.now) (bindings_of store.old) ahead.old.next)) }
     ensures below { IfOk result (λ turn.
-        IsTurnBelow (moved_equation sides.entry) (present store.old).next turn ahead.new) }
+        IsTurnBelow (moved_equation sides.now) (present store.old).next turn ahead.new) }
     ensures equations { work.new.equations.items ≡ work.old.equations.items }
     ensures problems { work.new.problems.items ≡ work.old.problems.items }
     ensures goes_on { OnOk result (GoOn (present store.old) work.old (present store.new) work.new) }

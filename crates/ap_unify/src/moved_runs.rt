@@ -1,9 +1,9 @@
 //! How a run goes on from an equation of closures on which swappings wait.
 
-ghost use Rattle.std.specs.Prelude.{◌≡◌, ◌∷◌, ◌++◌, ℕ, List, IfOk, OnOk};
-ghost use Rattle.ap_defs.specs.Substitution.{Binding};
+ghost use Rattle.std.specs.Prelude.{◌≡◌, ◌∷◌, ◌++◌, ℕ, None, IfOk, OnOk};
+ghost use Rattle.ap_defs.specs.Permutations.{inverse};
 ghost use Rattle.ap_defs.specs.Terms.{act_term};
-ghost use Rattle.ap_defs.specs.Unification.{next, step};
+ghost use Rattle.ap_defs.specs.Unification.{step};
 ghost use Rattle.ap_equations.specs.Plain.{plain_term};
 ghost use Rattle.ap_perm.specs.Closures.{closure_term};
 ghost use Rattle.ap_rules.specs.Runs.{stage_under};
@@ -14,11 +14,12 @@ ghost use Rattle.ap_store.specs.Views.{bindings_of, kinds, present, versions};
 ghost use Rattle.ap_unify.specs.Moved.{moved_equation};
 ghost use Rattle.ap_unify.specs.Parts.{AreBelowBoth, IsWaitingBelow, IsWayBelow, LeadsTo, progress_to, stage_of, stage_with, waiting_equations};
 
+use crate::binders::next_binders;
 use crate::fronts::{Front, Way, after_done};
-use crate::moved::{Sides, moved_closure, step_moved};
-use crate::parts::{Ahead, Turn};
+use crate::moved::{Sides, moved_closure, name_within, step_moved};
+use crate::parts::{Ahead, Turn, terms_of};
 use ap_defs::memory::Memory;
-use ap_defs::terms::Term;
+use ap_defs::terms::{Name, Swap, Term};
 use ap_equations::plain::{Plain, PlainPair};
 use ap_equations::work::{by_rule, put_equation};
 use ap_perm::closures::Closure;
@@ -27,17 +28,13 @@ use ap_store::store::Store;
 use std::alloc::Global;
 
 /// The equation of two parts on which swappings wait.
-fn pair_of<'a>(
-    alloc: Global,
-    sides: Sides<'_>,
-    pair: PlainPair<'a>,
-) -> Result<ClosurePair<'a>, Memory>
-    ensures same { IfOk result (λ e. pair_equation e ≡ moved_equation sides.entry pair.entry) }
+fn pair_of<'a>(alloc: Global, sides: &Sides, pair: PlainPair<'a>) -> Result<ClosurePair<'a>, Memory>
+    ensures same { IfOk result (λ e. pair_equation e ≡ moved_equation sides.now pair.entry) }
     ensures below { IfOk result (λ e. (n : ℕ) →
-        AreBelowBoth (moved_equation sides.entry) n pair.entry → IsPairBelow n e) }
+        AreBelowBoth (moved_equation sides.now) n pair.entry → IsPairBelow n e) }
 {
-    let left = moved_closure(alloc, sides.left, pair.left)?;
-    let right = moved_closure(alloc, sides.right, pair.right)?;
+    let left = moved_closure(alloc, &sides.left, pair.left)?;
+    let right = moved_closure(alloc, &sides.right, pair.right)?;
     Ok(ClosurePair { left, right })
 }
 
@@ -45,13 +42,13 @@ fn pair_of<'a>(
 fn put_moved<'a>(
     alloc: Global,
     work: &mut Work<'a>,
-    sides: Sides<'_>,
+    sides: &Sides,
     waiting: Option<PlainPair<'a>>,
 ) -> Result<(), Memory>
     ensures equations { OnOk result (equations_left work.new
-        ≡ waiting_equations (moved_equation sides.entry) waiting.entry ++ equations_left work.old) }
+        ≡ waiting_equations (moved_equation sides.now) waiting.entry ++ equations_left work.old) }
     ensures below { OnOk result ((n : ℕ) →
-        IsWaitingBelow (moved_equation sides.entry) n waiting.entry →
+        IsWaitingBelow (moved_equation sides.now) n waiting.entry →
         ArePairsBelow n work.old.equations.items → ArePairsBelow n work.new.equations.items) }
     ensures problems { work.new.problems.items ≡ work.old.problems.items }
     ensures taken { work.new.taken.items ≡ work.old.taken.items }
@@ -70,13 +67,13 @@ fn by_moved_closures<'a>(
     alloc: Global,
     store: &mut Store<'a>,
     work: &mut Work<'a>,
-    sides: Sides<'_>,
+    sides: &Sides,
     pair: PlainPair<'a>,
 ) -> Result<bool, Memory>
-    requires below { AreBelowBoth (moved_equation sides) (present store.old).next pair }
+    requires below { AreBelowBoth (moved_equation sides.now) (present store.old).next pair }
     ensures stage { IfOk result (λ goes_on. progress_if goes_on (work_stage
         (bindings_of store.new) work.new)
-        ≡ step (stage_with (moved_equation sides.entry) (bindings_of store.old) pair.entry
+        ≡ step (stage_with (moved_equation sides.now) (bindings_of store.old) pair.entry
         work.old)) }
     ensures goes_on { OnOk result (GoOn (present store.old) work.old (present store.new) work.new) }
     ensures past { IsPrefixOf (versions store.old) (versions store.new) }
@@ -86,23 +83,66 @@ fn by_moved_closures<'a>(
     by_rule(alloc, store, work, e)
 }
 
-/// One step for the equation in front. It is replaced in the place.
+/// The step for two parts that is left to another way, where nothing waits in front: the swappings change for the
+/// bodies of abstractions, and all others go by closures.
+fn other_moved<'a>(
+    alloc: Global,
+    store: &mut Store<'a>,
+    work: &mut Work<'a>,
+    sides: &mut Sides,
+    front: &mut Front<'a>,
+) -> Result<Way, Memory>
+    requires pair { AreBelowBoth (moved_equation sides.old) (present store.old).next
+        front.old.ahead.next }
+    requires none { front.old.waiting ≡ None }
+    ensures stage { IfOk result (λ way. LeadsTo (stage_with (moved_equation sides.old)
+        (bindings_of store.old) front.old.ahead.next work.old)
+        (progress_to (moved_equation sides.new) way (bindings_of store.new) front.new work.new)) }
+    ensures below { IfOk result (λ way.
+        IsWayBelow (moved_equation sides.new) (present store.old).next way front.new) }
+    ensures goes_on { OnOk result (GoOn (present store.old) work.old (present store.new) work.new) }
+    ensures past { IsPrefixOf (versions store.old) (versions store.new) }
+    ensures kinds { kinds store.new ≡ kinds store.old }
+{
+    let pair = front.ahead.next;
+    match (pair.left.term, pair.right.term) {
+        (Term::Abs(sort, num, t), Term::Abs(other_sort, other_num, u)) => {
+            let a = Name {
+                sort: *sort,
+                num: *num,
+            };
+            let b = Name {
+                sort: *other_sort,
+                num: *other_num,
+            };
+            let a = name_within(&sides.left, pair.left, a);
+            let b = name_within(&sides.right, pair.right, b);
+            next_binders(alloc, work, sides, front, a, b, terms_of(pair, t, u))
+        }
+        _ => {
+            let solved = by_moved_closures(alloc, store, work, sides, pair)?;
+            Ok(Way::End(solved))
+        }
+    }
+}
+
+/// One step for the equation in front, by which the swappings may change. It is replaced in the place.
 fn next_moved<'a>(
     alloc: Global,
     store: &mut Store<'a>,
     work: &mut Work<'a>,
-    sides: Sides<'_>,
+    sides: &mut Sides,
     front: &mut Front<'a>,
 ) -> Result<Way, Memory>
-    requires pair { AreBelowBoth (moved_equation sides) (present store.old).next
+    requires pair { AreBelowBoth (moved_equation sides.old) (present store.old).next
         front.old.ahead.next }
-    requires waiting { IsWaitingBelow (moved_equation sides) (present store.old).next
+    requires waiting { IsWaitingBelow (moved_equation sides.old) (present store.old).next
         front.old.waiting }
-    ensures stage { IfOk result (λ way. progress_to (moved_equation sides.entry) way
-        (bindings_of store.new) front.new work.new ≡ step (stage_of (moved_equation sides.entry) (bindings_of store.old)
-        front.old.ahead.next front.old.waiting work.old)) }
+    ensures stage { IfOk result (λ way. LeadsTo (stage_of (moved_equation sides.old)
+        (bindings_of store.old) front.old.ahead.next front.old.waiting work.old)
+        (progress_to (moved_equation sides.new) way (bindings_of store.new) front.new work.new)) }
     ensures below { IfOk result (λ way.
-        IsWayBelow (moved_equation sides.entry) (present store.old).next way front.new) }
+        IsWayBelow (moved_equation sides.new) (present store.old).next way front.new) }
     ensures goes_on { OnOk result (GoOn (present store.old) work.old (present store.new) work.new) }
     ensures past { IsPrefixOf (versions store.old) (versions store.new) }
     ensures kinds { kinds store.new ≡ kinds store.old }
@@ -118,44 +158,43 @@ fn next_moved<'a>(
         }
         Turn::Other => {
             put_moved(alloc, work, sides, front.waiting)?;
-            let solved = by_moved_closures(alloc, store, work, sides, front.ahead.next)?;
-            Ok(Way::End(solved))
+            front.waiting = None;
+            other_moved(alloc, store, work, sides, front)
         }
     }
 }
 
-/// The part that a closure is, without the swappings that wait on it.
-fn part_of<'a>(c: &Closure<'a>) -> Plain<'a>
-    ensures { act_term c.now.swaps.items (plain_term result) ≡ closure_term c.now }
+/// A closure, taken apart: the swappings that wait, the first innermost, and the part on which they do.
+fn apart<'a>(c: Closure<'a>) -> (Vec<Swap>, Plain<'a>)
+    ensures { act_term (inverse result.0.items) (plain_term result.1) ≡ closure_term c.entry }
 {
-    Plain {
-        base: c.base,
-        end: c.end,
-        term: c.term,
+    let Closure {
+        mut swaps,
+        base,
+        end,
+        term,
+    } = c;
+    swaps.reverse();
+    let part = Plain {
+        base,
+        end,
+        term,
         is_ground: false,
-    }
-}
-
-/// Whether two closures are abstractions, whose binders mostly differ: then the swappings change at once. It spares
-/// work alone.
-fn are_abstractions(e: &ClosurePair<'_>) -> bool {
-    matches!(
-        (e.left.term, e.right.term),
-        (Term::Abs(_, _, _), Term::Abs(_, _, _))
-    )
+    };
+    (swaps, part)
 }
 
 /// Rewrites an equation of two parts on which swappings wait, in front of those that are left, as long as this makes
-/// another one with the same swappings. It answers false where there is no solution.
+/// another one of two parts. It answers false where there is no solution.
 fn along_moved<'a>(
     alloc: Global,
     store: &mut Store<'a>,
     work: &mut Work<'a>,
-    sides: Sides<'_>,
+    mut sides: Sides,
     first: PlainPair<'a>,
 ) -> Result<bool, Memory>
     requires { AreBelowBoth (moved_equation sides) (present store.old).next first }
-    ensures stage { IfOk result (λ goes_on. LeadsTo (stage_with (moved_equation sides.entry)
+    ensures stage { IfOk result (λ goes_on. LeadsTo (stage_with (moved_equation sides)
         (bindings_of store.old) first.entry work.old)
         (progress_if goes_on (work_stage (bindings_of store.new) work.new))) }
     ensures goes_on { OnOk result (GoOn (present store.old) work.old (present store.new) work.new) }
@@ -171,15 +210,15 @@ fn along_moved<'a>(
         waiting: None,
     };
     'going: loop {
-        match next_moved(alloc, store, work, sides, &mut front)? {
+        match next_moved(alloc, store, work, &mut sides, &mut front)? {
             Way::End(goes_on) => return Ok(goes_on),
             Way::On => {}
         }
     }
 }
 
-/// One or several steps for an equation of closures in front of those that are left, with the swappings lent that
-/// wait on either side. It answers false where there is no solution.
+/// One or several steps for an equation of closures in front of those that are left, with the swappings that
+/// wait on either side kept for all its parts. It answers false where there is no solution.
 pub fn along_closures<'a>(
     alloc: Global,
     store: &mut Store<'a>,
@@ -194,16 +233,12 @@ pub fn along_closures<'a>(
     ensures past { IsPrefixOf (versions store.old) (versions store.new) }
     ensures kinds { kinds store.new ≡ kinds store.old }
 {
-    if are_abstractions(&first) {
-        return by_rule(alloc, store, work, first);
-    }
-    let pair = PlainPair {
-        left: part_of(&first.left),
-        right: part_of(&first.right),
-    };
+    let ClosurePair { left, right } = first;
+    let (left_swaps, left) = apart(left);
+    let (right_swaps, right) = apart(right);
     let sides = Sides {
-        left: &first.left.swaps,
-        right: &first.right.swaps,
+        left: left_swaps,
+        right: right_swaps,
     };
-    along_moved(alloc, store, work, sides, pair)
+    along_moved(alloc, store, work, sides, PlainPair { left, right })
 }

@@ -2,9 +2,9 @@
 
 ghost use Rattle.std.specs.Prelude.{◌≡◌, ◌<◌, ◌+◌, ◌∷◌, [], false, true, IfOk, OnOk, drop, length, vec_len};
 ghost use Rattle.ap_defs.specs.Renaming.{AreBelow};
-ghost use Rattle.ap_defs.specs.Unification.{ending};
 ghost use Rattle.ap_store.specs.Triples.{IsPrefixOf};
 ghost use Rattle.ap_store.specs.Views.{bindings_of, kinds, present, versions};
+ghost use Rattle.ap_unify.specs.Finishing.{EndsAs};
 ghost use Rattle.ap_unify.specs.Lists.{renamed_terms_in};
 ghost use Rattle.ap_unify.specs.Parts.{AreBelowBoth, AreMarksTrue, LeadsTo, Reaches, parts_equation, stage_with};
 ghost use Rattle.ap_equations.specs.Plain.{plain_term};
@@ -166,9 +166,9 @@ pub fn run_places<'a>(
     requires left_made { AreBelow (present store.old).next (renamed_terms_in left) }
     requires right_made { AreBelow (present store.old).next (renamed_terms_in right) }
     requires none { work.old.equations.items ≡ [] }
-    ensures ending { IfOk result (λ solved. ending (stage_under (bindings_of store.old) (paired
+    ensures ending { IfOk result (λ solved. EndsAs (stage_under (bindings_of store.old) (paired
         (renamed_terms_in left.entry) (renamed_terms_in right.entry)) (problems_met work.old))
-        ≡ ending_if solved (work_stage (bindings_of store.new) work.new)) }
+        (ending_if solved (work_stage (bindings_of store.new) work.new))) }
     ensures left { IfOk result (λ solved. solved ≡ true → work.new.equations.items ≡ []) }
     ensures goes_on { OnOk result (GoOn (present store.old) work.old (present store.new) work.new) }
     ensures past { IsPrefixOf (versions store.old) (versions store.new) }

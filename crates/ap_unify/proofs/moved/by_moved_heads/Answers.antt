@@ -1,15 +1,15 @@
 use Rattle.ap_unify.specs.Parts.{IsRuleFor}
-use Rattle.std.proofs.Common.{ap, ap₂, subst, sym, ◌∙◌}
+use Rattle.std.proofs.Common.{List, ap, ap₂, refl, subst, sym, ◌∙◌}
 use Rattle.ap_defs.specs.Permutations.{inverse}
-use Rattle.ap_defs.specs.Renaming.{IsBelow}
+use Rattle.ap_defs.specs.Renaming.{AreSwapsBelow, IsBelow}
 use Rattle.ap_defs.specs.Substitution.{under}
 use Rattle.ap_defs.specs.Terms.{NominalTerm, act_term}
 use Rattle.ap_defs.specs.Unification.{unless_occurs}
+use Rattle.ap_defs.specs.declared.terms.Swap.{Swap}
 use Rattle.ap_equations.specs.Plain.{plain_term}
-use Rattle.ap_perm.specs.Closures.{closure_term}
 use Rattle.ap_rules.proofs.WorkLemmas.{if_ok}
 use Rattle.ap_store.specs.Views.{bindings_of, present}
-use Rattle.ap_unify.proofs.MovedLemmas.{act_form, free_made, free_swaps_below, moved_left, moved_right}
+use Rattle.ap_unify.proofs.MovedLemmas.{act_form, back_swaps_below, free_made, moved_left, moved_right}
 use Rattle.ap_unify.proofs.PartLemmas.{head_form, head_free}
 use Rattle.ap_unify.proofs.moved.by_moved_heads.Goals as goal
 use Rattle.ap_unify.specs.Moved.{moved_equation}
@@ -31,7 +31,7 @@ bind_back-requires-in-Free-Form-clause-made c =
     let s = bindings_of c.args.store.now in
     let l = plain_term c.args.ahead.now.next.left in
     let x = c.in-Free-Form.x in
-    free_made (present c.args.store.now).next c.args.sides.left.now l x (head_free s l c.args.left x c.requires.left c.in-Free-Form.is-0).0 c.requires.below.0
+    free_made (present c.args.store.now).next (inverse c.args.sides.now.left.items) l x (head_free s l c.args.left x c.requires.left c.in-Free-Form.is-0).0 c.requires.below.0
 
 pub bind_back-requires-in-Free-Form-clause-unbound : goal.bind_back-requires-in-Free-Form-clause-unbound
 bind_back-requires-in-Free-Form-clause-unbound c =
@@ -42,26 +42,31 @@ bind_back-requires-in-Free-Form-clause-swaps c =
     let s = bindings_of c.args.store.now in
     let l = plain_term c.args.ahead.now.next.left in
     let x = c.in-Free-Form.x in
-    free_swaps_below (present c.args.store.now).next c.args.sides.left.now l x (head_free s l c.args.left x c.requires.left c.in-Free-Form.is-0).0 c.requires.below.0
+    subst (AreSwapsBelow (present c.args.store.now).next) (sym c.deref-in-Free-Form-2.ensures.value)
+    (back_swaps_below (present c.args.store.now).next (inverse c.args.sides.now.left.items) l x (head_free s l c.args.left x c.requires.left c.in-Free-Form.is-0).0 c.requires.below.0
+    c.args.sides.now.left.items refl)
 
 pub bind_back-requires-in-Free-Form-clause-below : goal.bind_back-requires-in-Free-Form-clause-below
-bind_back-requires-in-Free-Form-clause-below c = subst (IsBelow (present c.args.store.now).next) (sym c.in_ok-c-in-Free-Form.ensures) c.requires.below.1
+bind_back-requires-in-Free-Form-clause-below c =
+    let r = plain_term c.args.ahead.now.next.right in
+    subst (IsBelow (present c.args.store.now).next) (sym (c.in_ok-c-in-Free-Form.ensures ∙ ap (λ q. act_term (inverse q) r) c.deref-in-Free-Form.ensures.value)) c.requires.below.1
 
 pub returns-in_ok-c-in-Free-Form-clause-turn : goal.returns-in_ok-c-in-Free-Form-clause-turn
 returns-in_ok-c-in-Free-Form-clause-turn c =
     let s = bindings_of c.args.store.now in
-    let m = c.args.sides in
+    let m = c.args.sides.now in
     let l = plain_term c.args.ahead.now.next.left in
     let r = plain_term c.args.ahead.now.next.right in
     let x = c.in-Free-Form.x in
-    let u = act_term m.right.now r in
-    let f = act_form m.right.now r (head_form s r c.args.right c.requires.right c.in-Free-Form.is-1) in
-    let e = ap (λ (t : NominalTerm). unless_occurs x (under s t) (act_term (inverse m.left.now) (under s t))) c.in_ok-c-in-Free-Form.ensures
-    ∙ moved_left s m.left.now x l u (head_free s l c.args.left x c.requires.left c.in-Free-Form.is-0) f in
+    let u = act_term (inverse m.right.items) r in
+    let f = act_form (inverse m.right.items) r (head_form s r c.args.right c.requires.right c.in-Free-Form.is-1) in
+    let e = ap₂ (λ (t : NominalTerm) (q : List Swap). unless_occurs x (under s t) (act_term q (under s t)))
+    (c.in_ok-c-in-Free-Form.ensures ∙ ap (λ q. act_term (inverse q) r) c.deref-in-Free-Form.ensures.value) c.deref-in-Free-Form-2.ensures.value
+    ∙ moved_left s m.left.items x l u (head_free s l c.args.left x c.requires.left c.in-Free-Form.is-0) f in
     if_ok c.bind_back-in-Free-Form.result (λ turn h. subst (IsRuleFor (moved_equation m) turn c.args.ahead.now s (bindings_of c.bind_back-in-Free-Form.new.store)) e (h m c.args.ahead.now)) c.bind_back-in-Free-Form.ensures.turn
 
 pub returns-in_ok-c-in-Free-Form-clause-below : goal.returns-in_ok-c-in-Free-Form-clause-below
-returns-in_ok-c-in-Free-Form-clause-below c = if_ok c.bind_back-in-Free-Form.result (λ turn h. h c.args.sides c.args.ahead.now) c.bind_back-in-Free-Form.ensures.below
+returns-in_ok-c-in-Free-Form-clause-below c = if_ok c.bind_back-in-Free-Form.result (λ turn h. h c.args.sides.now c.args.ahead.now) c.bind_back-in-Free-Form.ensures.below
 
 -- a variable on the right
 pub bind_back-requires-clause-made : goal.bind_back-requires-clause-made
@@ -69,7 +74,7 @@ bind_back-requires-clause-made c =
     let s = bindings_of c.args.store.now in
     let r = plain_term c.args.ahead.now.next.right in
     let y = c.in-Form-Free.y in
-    free_made (present c.args.store.now).next c.args.sides.right.now r y (head_free s r c.args.right y c.requires.right c.in-Form-Free.is-1).0 c.requires.below.1
+    free_made (present c.args.store.now).next (inverse c.args.sides.now.right.items) r y (head_free s r c.args.right y c.requires.right c.in-Form-Free.is-1).0 c.requires.below.1
 
 pub bind_back-requires-clause-unbound : goal.bind_back-requires-clause-unbound
 bind_back-requires-clause-unbound c =
@@ -80,23 +85,28 @@ bind_back-requires-clause-swaps c =
     let s = bindings_of c.args.store.now in
     let r = plain_term c.args.ahead.now.next.right in
     let y = c.in-Form-Free.y in
-    free_swaps_below (present c.args.store.now).next c.args.sides.right.now r y (head_free s r c.args.right y c.requires.right c.in-Form-Free.is-1).0 c.requires.below.1
+    subst (AreSwapsBelow (present c.args.store.now).next) (sym c.deref-in-Form-Free.ensures.value)
+    (back_swaps_below (present c.args.store.now).next (inverse c.args.sides.now.right.items) r y (head_free s r c.args.right y c.requires.right c.in-Form-Free.is-1).0 c.requires.below.1
+    c.args.sides.now.right.items refl)
 
 pub bind_back-requires-clause-below : goal.bind_back-requires-clause-below
-bind_back-requires-clause-below c = subst (IsBelow (present c.args.store.now).next) (sym c.in_ok-c-in-Form-Free.ensures) c.requires.below.0
+bind_back-requires-clause-below c =
+    let l = plain_term c.args.ahead.now.next.left in
+    subst (IsBelow (present c.args.store.now).next) (sym (c.in_ok-c-in-Form-Free.ensures ∙ ap (λ q. act_term (inverse q) l) c.deref.ensures.value)) c.requires.below.0
 
 pub returns-in_ok-c-in-Form-Free-clause-turn : goal.returns-in_ok-c-in-Form-Free-clause-turn
 returns-in_ok-c-in-Form-Free-clause-turn c =
     let s = bindings_of c.args.store.now in
-    let m = c.args.sides in
+    let m = c.args.sides.now in
     let l = plain_term c.args.ahead.now.next.left in
     let r = plain_term c.args.ahead.now.next.right in
     let y = c.in-Form-Free.y in
-    let t = act_term m.left.now l in
-    let f = act_form m.left.now l (head_form s l c.args.left c.requires.left c.in-Form-Free.is-0) in
-    let e = ap (λ (v : NominalTerm). unless_occurs y (under s v) (act_term (inverse m.right.now) (under s v))) c.in_ok-c-in-Form-Free.ensures
-    ∙ moved_right s m.right.now y t r f (head_free s r c.args.right y c.requires.right c.in-Form-Free.is-1) in
+    let t = act_term (inverse m.left.items) l in
+    let f = act_form (inverse m.left.items) l (head_form s l c.args.left c.requires.left c.in-Form-Free.is-0) in
+    let e = ap₂ (λ (v : NominalTerm) (q : List Swap). unless_occurs y (under s v) (act_term q (under s v)))
+    (c.in_ok-c-in-Form-Free.ensures ∙ ap (λ q. act_term (inverse q) l) c.deref.ensures.value) c.deref-in-Form-Free.ensures.value
+    ∙ moved_right s m.right.items y t r f (head_free s r c.args.right y c.requires.right c.in-Form-Free.is-1) in
     if_ok c.bind_back.result (λ turn h. subst (IsRuleFor (moved_equation m) turn c.args.ahead.now s (bindings_of c.bind_back.new.store)) e (h m c.args.ahead.now)) c.bind_back.ensures.turn
 
 pub returns-in_ok-c-in-Form-Free-clause-below : goal.returns-in_ok-c-in-Form-Free-clause-below
-returns-in_ok-c-in-Form-Free-clause-below c = if_ok c.bind_back.result (λ turn h. h c.args.sides c.args.ahead.now) c.bind_back.ensures.below
+returns-in_ok-c-in-Form-Free-clause-below c = if_ok c.bind_back.result (λ turn h. h c.args.sides.now c.args.ahead.now) c.bind_back.ensures.below

@@ -1,4 +1,3 @@
-use Rattle.std.proofs.Common.{subst, sym}
 use Rattle.ap_equations.specs.Plain.{plain_term}
 use Rattle.ap_store.specs.Views.{present}
 use Rattle.ap_unify.proofs.MovedLemmas.{followed_below, susp_has_variable}

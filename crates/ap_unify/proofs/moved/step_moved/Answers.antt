@@ -1,22 +1,23 @@
 use Rattle.ap_unify.specs.Parts.{IsRuleFor}
 use Rattle.std.proofs.Common.{ap₂, subst}
+use Rattle.ap_defs.specs.Permutations.{inverse}
 use Rattle.ap_defs.specs.Unification.{rule}
 use Rattle.ap_equations.specs.Plain.{plain_term}
 use Rattle.ap_rules.proofs.WorkLemmas.{if_ok}
-use Rattle.ap_store.specs.Views.{bindings_of, present}
+use Rattle.ap_store.specs.Views.{bindings_of}
 use Rattle.ap_unify.proofs.MovedLemmas.{act_under}
 use Rattle.ap_unify.proofs.moved.step_moved.Goals as goal
 use Rattle.ap_unify.specs.Moved.{moved_equation}
 
 pub by_moved_heads-requires-clause-below : goal.by_moved_heads-requires-clause-below
 by_moved_heads-requires-clause-below c =
-    (c.head_within-left.ensures.below c.args.sides.left.now c.requires.below.0, c.head_within-right.ensures.below c.args.sides.right.now c.requires.below.1)
+    (c.head_within-left.ensures.below (inverse c.args.sides.now.left.items) c.requires.below.0, c.head_within-right.ensures.below (inverse c.args.sides.now.right.items) c.requires.below.1)
 
 pub returns-clause-turn : goal.returns-clause-turn
 returns-clause-turn c =
     let s = bindings_of c.args.store.now in
-    let l = act_under s c.args.sides.left.now (plain_term c.args.ahead.now.next.left) (plain_term c.head_within-left.result.part) c.head_within-left.ensures.meaning in
-    let r = act_under s c.args.sides.right.now (plain_term c.args.ahead.now.next.right) (plain_term c.head_within-right.result.part) c.head_within-right.ensures.meaning in
+    let l = act_under s (inverse c.args.sides.now.left.items) (plain_term c.args.ahead.now.next.left) (plain_term c.head_within-left.result.part) c.head_within-left.ensures.meaning in
+    let r = act_under s (inverse c.args.sides.now.right.items) (plain_term c.args.ahead.now.next.right) (plain_term c.head_within-right.result.part) c.head_within-right.ensures.meaning in
     if_ok c.by_moved_heads.result
-    (λ turn h. subst (IsRuleFor (moved_equation c.args.sides) turn c.by_moved_heads.new.ahead s (bindings_of c.by_moved_heads.new.store)) (ap₂ rule l r) h)
+    (λ turn h. subst (IsRuleFor (moved_equation c.args.sides.now) turn c.by_moved_heads.new.ahead s (bindings_of c.by_moved_heads.new.store)) (ap₂ rule l r) h)
     c.by_moved_heads.ensures.turn

@@ -1,7 +1,5 @@
-use Rattle.std.proofs.Common.{◌∷◌, ap, ap₂, subst, ◌∙◌}
+use Rattle.std.proofs.Common.{◌∷◌, ap₂, subst}
 use Rattle.ap_defs.specs.Substitution.{Equation, ◌≐◌}
-use Rattle.ap_defs.specs.Terms.{act_term}
-use Rattle.ap_equations.specs.Plain.{plain_term}
 use Rattle.ap_rules.proofs.WorkLemmas.{if_ok}
 use Rattle.ap_rules.specs.Runs.{stage_under}
 use Rattle.ap_rules.specs.Work.{equations_left, problems_met, progress_if, work_stage}
@@ -14,8 +12,6 @@ returns-clause-stage c =
     let s = bindings_of c.args.store.now in
     let w = c.args.work.now in
     let last = work_stage (bindings_of c.along_moved.new.store) c.along_moved.new.work in
-    let l = ap (λ q. act_term q (plain_term c.part_of.result)) c.deref.ensures.value ∙ c.part_of.ensures in
-    let r = ap (λ q. act_term q (plain_term c.part_of-2.result)) c.deref-2.ensures.value ∙ c.part_of-2.ensures in
     if_ok c.along_moved.result
-    (λ goes_on h. subst (λ (e : Equation). LeadsTo (stage_under s (e ∷ equations_left w) (problems_met w)) (progress_if goes_on last)) (ap₂ ◌≐◌ l r) h)
+    (λ goes_on h. subst (λ (e : Equation). LeadsTo (stage_under s (e ∷ equations_left w) (problems_met w)) (progress_if goes_on last)) (ap₂ ◌≐◌ c.apart-left_swaps.ensures c.apart-right_swaps.ensures) h)
     c.along_moved.ensures.stage

@@ -1,12 +1,11 @@
-use Rattle.ap_unify.specs.Parts.{IsWaitingBelow, stage_of, progress_to, IsWayBelow, AreBelowBoth}
-use Rattle.std.proofs.Common.{◌≡◌, ◌+◌, subst, sym, ◌∙◌, arith}
-use Rattle.ap_defs.specs.Unification.{next, step}
+use Rattle.std.proofs.Common.{inr, subst, sym, ◌∙◌}
+use Rattle.ap_defs.specs.Unification.{next}
 use Rattle.ap_store.specs.Views.{bindings_of, present, versions}
-use Rattle.ap_theory.proofs.TerminationLemmas.{steps_left, steps_left_next}
-use Rattle.ap_unify.proofs.ReachLemmas.{leads_now, leads_on}
+use Rattle.ap_unify.proofs.ReachLemmas.{leads_less, then_reaches}
 use Rattle.ap_rules.proofs.WorkLemmas.{go_on_on, goes_on_on}
 use Rattle.ap_unify.proofs.moved_runs.along_moved.Goals as goal
 use Rattle.ap_unify.specs.Moved.{moved_equation}
+use Rattle.ap_unify.specs.Parts.{AreBelowBoth, IsWaitingBelow, IsWayBelow, LeadsTo, progress_to, stage_of}
 use Rattle.ap_rules.specs.Work.{progress_if, work_stage}
 use Rattle.ap_unify.specs.declared.fronts.Way.TheVariants as ways
 
@@ -15,21 +14,20 @@ returns-in-End-clause-stage c =
     let s = bindings_of c.next_moved.new.store in
     let w = c.next_moved.new.work in
     let f = c.next_moved.new.front in
-    let before = stage_of (moved_equation c.args.sides) (bindings_of c.going.store) c.going.front.ahead.next c.going.front.waiting c.going.work in
+    let m = c.next_moved.new.sides in
+    let before = stage_of (moved_equation c.going.sides) (bindings_of c.going.store) c.going.front.ahead.next c.going.front.waiting c.going.work in
     let p = progress_if c.in-End.goes_on (work_stage s w) in
-    let e : p ≡ step before = subst (λ x. progress_to (moved_equation c.args.sides) x s f w ≡ step before) c.in-End.is c.in_ok-goes_on.ensures.stage in
-    c.going.invariant.leads p (leads_now before p (sym e))
+    c.going.invariant.leads p (subst (λ x. LeadsTo before (progress_to (moved_equation m) x s f w)) c.in-End.is c.in_ok-goes_on.ensures.stage)
 
 pub going-smaller : goal.going-smaller
 going-smaller c =
     let s = bindings_of c.next_moved.new.store in
     let w = c.next_moved.new.work in
     let f = c.next_moved.new.front in
-    let before = stage_of (moved_equation c.args.sides) (bindings_of c.going.store) c.going.front.ahead.next c.going.front.waiting c.going.work in
-    let after = stage_of (moved_equation c.args.sides) s f.ahead.next f.waiting w in
-    let e : next after ≡ step before = subst (λ x. progress_to (moved_equation c.args.sides) x s f w ≡ step before) c.in-On.is c.in_ok-goes_on.ensures.stage in
-    let k : steps_left before ≡ 1 + steps_left after = steps_left_next before after (sym e) in
-    omega arith
+    let m = c.next_moved.new.sides in
+    let before = stage_of (moved_equation c.going.sides) (bindings_of c.going.store) c.going.front.ahead.next c.going.front.waiting c.going.work in
+    let after = stage_of (moved_equation m) s f.ahead.next f.waiting w in
+    leads_less before after (subst (λ x. LeadsTo before (progress_to (moved_equation m) x s f w)) c.in-On.is c.in_ok-goes_on.ensures.stage)
 
 pub going-preserved : goal.going-preserved
 going-preserved c =
@@ -39,15 +37,16 @@ going-preserved c =
     let s = bindings_of c.next_moved.new.store in
     let w = c.next_moved.new.work in
     let f = c.next_moved.new.front in
-    let before = stage_of (moved_equation c.args.sides) (bindings_of c.going.store) c.going.front.ahead.next c.going.front.waiting c.going.work in
-    let after = stage_of (moved_equation c.args.sides) s f.ahead.next f.waiting w in
-    let e : next after ≡ step before = subst (λ x. progress_to (moved_equation c.args.sides) x s f w ≡ step before) c.in-On.is c.in_ok-goes_on.ensures.stage in
+    let m = c.next_moved.new.sides in
+    let before = stage_of (moved_equation c.going.sides) (bindings_of c.going.store) c.going.front.ahead.next c.going.front.waiting c.going.work in
+    let after = stage_of (moved_equation m) s f.ahead.next f.waiting w in
+    let e : LeadsTo before (next after) = subst (λ x. LeadsTo before (progress_to (moved_equation m) x s f w)) c.in-On.is c.in_ok-goes_on.ensures.stage in
     let n = c.in_ok-goes_on.ensures.goes_on.next in
-    let below : IsWayBelow (moved_equation c.args.sides) b.next ways.On f = subst (λ x. IsWayBelow (moved_equation c.args.sides) b.next x f) c.in-On.is c.in_ok-goes_on.ensures.below in
+    let below : IsWayBelow (moved_equation m) b.next ways.On f = subst (λ x. IsWayBelow (moved_equation m) b.next x f) c.in-On.is c.in_ok-goes_on.ensures.below in
     record {
-      leads = λ p h. c.going.invariant.leads p (leads_on before after p (sym e) h);
-      pair_below = subst (λ m. AreBelowBoth (moved_equation c.args.sides) m f.ahead.next) (sym n) below.0;
-      waiting_below = subst (λ m. IsWaitingBelow (moved_equation c.args.sides) m f.waiting) (sym n) below.1;
+      leads = λ p h. c.going.invariant.leads p (then_reaches before after p e (inr h));
+      pair_below = subst (λ k. AreBelowBoth (moved_equation m) k f.ahead.next) (sym n) below.0;
+      waiting_below = subst (λ k. IsWaitingBelow (moved_equation m) k f.waiting) (sym n) below.1;
       goes_on = go_on_on a b d c.args.work.now c.going.work w c.going.invariant.goes_on c.in_ok-goes_on.ensures.goes_on;
       past = goes_on_on (versions c.args.store.now) (versions c.going.store) (versions c.next_moved.new.store) c.going.invariant.past c.next_moved.ensures.past;
       kinds = c.next_moved.ensures.kinds ∙ c.going.invariant.kinds;

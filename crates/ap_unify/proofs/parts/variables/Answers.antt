@@ -1,4 +1,4 @@
-use Rattle.std.proofs.Common.{◌≡◌, ◌<◌, false, subst, sym, arith}
+use Rattle.std.proofs.Common.{◌≡◌, ◌<◌, false, subst, arith}
 use Rattle.std.proofs.lemmas.Bool.Decides.{nat_tests}
 use Rattle.ap_defs.specs.Freshness.{var_eq}
 use Rattle.ap_store.proofs.OccurrenceLemmas.{apart_not_ground, apart_not_like}

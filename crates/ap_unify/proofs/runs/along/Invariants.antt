@@ -2,7 +2,7 @@ use Rattle.std.proofs.Common.{◌≡◌}
 use Rattle.ap_defs.specs.Unification.{Progress}
 use Rattle.ap_store.specs.Triples.{IsPrefixOf}
 use Rattle.ap_store.specs.Views.{bindings_of, kinds, present, versions}
-use Rattle.ap_theory.proofs.TerminationLemmas.{steps_left}
+use Rattle.ap_unify.proofs.AlikeLemmas.{steps_to_end}
 use Rattle.ap_unify.specs.Parts.{AreBelowBoth, AreMarksTrue, AreWaitingMarksTrue, IsWaitingBelow, LeadsTo, parts_equation, stage_of}
 use Rattle.ap_rules.specs.Work.{GoOn}
 use Rattle.ap_unify.proofs.runs.along.Given as goal
@@ -21,4 +21,4 @@ invariant-going l = record {
 }
 
 abbrev pub decreases-going : goal.decreases-going
-decreases-going l = steps_left (stage_of parts_equation (bindings_of l.store) l.front.ahead.next l.front.waiting l.work)
+decreases-going l = steps_to_end (stage_of parts_equation (bindings_of l.store) l.front.ahead.next l.front.waiting l.work)

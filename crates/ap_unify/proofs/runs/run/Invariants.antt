@@ -2,7 +2,7 @@ use Rattle.std.proofs.Common.{◌≡◌}
 use Rattle.ap_defs.specs.Unification.{Progress}
 use Rattle.ap_store.specs.Triples.{IsPrefixOf}
 use Rattle.ap_store.specs.Views.{bindings_of, kinds, present, versions}
-use Rattle.ap_theory.proofs.TerminationLemmas.{steps_left}
+use Rattle.ap_unify.proofs.AlikeLemmas.{steps_to_end}
 use Rattle.ap_unify.specs.Parts.{Reaches}
 use Rattle.ap_rules.specs.Work.{ArePairsBelow, GoOn, work_stage}
 use Rattle.ap_unify.proofs.runs.run.Given as goal
@@ -18,4 +18,4 @@ invariant-rewriting l = record {
 }
 
 abbrev pub decreases-rewriting : goal.decreases-rewriting
-decreases-rewriting l = steps_left (work_stage (bindings_of l.store) l.work)
+decreases-rewriting l = steps_to_end (work_stage (bindings_of l.store) l.work)

@@ -1,7 +1,7 @@
 use Rattle.std.proofs.Common.{◌≡◌, ◌≤◌, ◌+◌, [], ◌∷◌, List, ap, ap₂, drop, length, map, refl, reverse, subst, sym, ◌∙◌, arith}
 use Rattle.std.proofs.lemmas.List.{drop_all}
 use Rattle.ap_defs.specs.Substitution.{◌≐◌}
-use Rattle.ap_defs.specs.Unification.{Stage, ending, failed, next, solved}
+use Rattle.ap_defs.specs.Unification.{Stage, ending, failed, finish, next, solved}
 use Rattle.ap_store.specs.Views.{bindings_of, present, versions}
 use Rattle.ap_theory.proofs.TerminationLemmas.{ending_done}
 use Rattle.ap_unify.proofs.BehindLemmas.{front_ending, front_failed}
@@ -38,7 +38,7 @@ pub solve-requires-clause-pairs : goal.solve-requires-clause-pairs
 solve-requires-clause-pairs c = subst (ArePairsBelow (present c.places.store).next) (sym c.places.invariant.none) tt
 
 pub returns-then-not-branch-clause-ending : goal.returns-then-not-branch-clause-ending
-returns-then-not-branch-clause-ending c =
+returns-then-not-branch-clause-ending c = λ ds.
     let s = bindings_of c.places.store in
     let w = c.places.work in
     let ps = problems_met w in
@@ -52,9 +52,9 @@ returns-then-not-branch-clause-ending c =
     subst (λ v. LeadsTo (stage_with parts_equation s pair w) (progress_if v last)) c.if-not-branch.true c.in_ok-solve.ensures.stage in
     let k : LeadsTo (stage_under s ((t ≐ u) ∷ []) ps) failed =
     subst (λ (es : List ClosurePair). LeadsTo (stage_under s ((t ≐ u) ∷ map pair_equation (reverse es)) ps) failed) c.places.invariant.none h in
-    c.places.invariant.ending
-    ∙ ap₂ (λ xs ys. ending (stage_under s (paired xs ys) ps)) c.term_at-here.ensures.term c.term_at-there.ensures.term
-    ∙ front_failed (paired (drop (c.places.i + 1) ts) (drop (c.places.i + 1) us)) s (well c.places.store).idempotent t u ps k
+    c.places.invariant.ending ds
+    ∙ ap (finish ds) (ap₂ (λ xs ys. ending (stage_under s (paired xs ys) ps)) c.term_at-here.ensures.term c.term_at-there.ensures.term
+    ∙ front_failed (paired (drop (c.places.i + 1) ts) (drop (c.places.i + 1) us)) s (well c.places.store).idempotent t u ps k)
 
 pub places-preserved : goal.places-preserved
 places-preserved c =
@@ -78,9 +78,9 @@ places-preserved c =
     let e : LeadsTo (stage_under b.bindings ((t ≐ u) ∷ []) ps) (next (stage_under d.bindings [] (problems_met v))) =
     subst (λ (x : Stage). LeadsTo (stage_under b.bindings ((t ≐ u) ∷ []) ps) (next x)) (last_of_work d.bindings v none) k in
     record {
-      ending = c.places.invariant.ending
-          ∙ ap₂ (λ xs ys. ending (stage_under b.bindings (paired xs ys) ps)) c.term_at-here.ensures.term c.term_at-there.ensures.term
-          ∙ front_ending (paired (drop (c.places.i + 1) ts) (drop (c.places.i + 1) us)) b.bindings (well c.places.store).idempotent t u ps d.bindings (problems_met v) e;
+      ending = λ ds. c.places.invariant.ending ds
+          ∙ ap₂ (λ xs ys. finish ds (ending (stage_under b.bindings (paired xs ys) ps))) c.term_at-here.ensures.term c.term_at-there.ensures.term
+          ∙ front_ending (paired (drop (c.places.i + 1) ts) (drop (c.places.i + 1) us)) b.bindings (well c.places.store).idempotent t u ps d.bindings (problems_met v) e ds;
       none = none;
       goes_on = go_on_on a b d c.args.work.now w v c.places.invariant.goes_on c.in_ok-solve.ensures.goes_on;
       past = goes_on_on (versions c.args.store.now) (versions c.places.store) (versions c.solve.new.store) c.places.invariant.past c.solve.ensures.past;
@@ -88,7 +88,7 @@ places-preserved c =
     }
 
 pub returns-clause-ending : goal.returns-clause-ending
-returns-clause-ending c =
+returns-clause-ending c = λ ds.
     let s = bindings_of c.places.store in
     let w = c.places.work in
     let ps = problems_met w in
@@ -96,7 +96,7 @@ returns-clause-ending c =
     let us = renamed_terms_in c.args.right in
     let l : length ts ≤ c.places.i = omega (arith, terms_length c.args.left.base c.args.left.terms.now) in
     let r : length us ≤ c.places.i = omega (arith, c.requires.lengths, terms_length c.args.right.base c.args.right.terms.now) in
-    c.places.invariant.ending
-    ∙ ap₂ (λ xs ys. ending (stage_under s (paired xs ys) ps)) (drop_all c.places.i ts l) (drop_all c.places.i us r)
+    c.places.invariant.ending ds
+    ∙ ap (finish ds) (ap₂ (λ xs ys. ending (stage_under s (paired xs ys) ps)) (drop_all c.places.i ts l) (drop_all c.places.i us r)
     ∙ ending_done (stage_under s [] ps) refl
-    ∙ ap solved (sym (last_of_work s w c.places.invariant.none))
+    ∙ ap solved (sym (last_of_work s w c.places.invariant.none)))

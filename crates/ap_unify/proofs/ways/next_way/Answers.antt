@@ -1,30 +1,25 @@
-use Rattle.std.proofs.Common.{subst, sym, ◌∙◌}
+use Rattle.std.proofs.Common.{subst, sym}
 use Rattle.ap_store.specs.Views.{bindings_of, present}
 use Rattle.ap_unify.proofs.WayLemmas.{both_way, clash_way, done_way, on_way, other_way, waiting_stay}
 use Rattle.ap_rules.proofs.WorkLemmas.{go_on_on, go_same}
 use Rattle.ap_unify.proofs.ways.next_way.Goals as goal
-use Rattle.ap_unify.proofs.ReachLemmas.{leads_alike}
 use Rattle.ap_rules.specs.Work.{progress_if, work_stage}
-use Rattle.ap_unify.specs.Parts.{AreBelowBoth, AreTurnMarksTrue, IsTurnBelow, IsWaitingBelow, parts_equation, stage_of, stage_with}
+use Rattle.ap_unify.specs.Parts.{AreBelowBoth, AreTurnMarksTrue, IsTurnBelow, IsWaitingBelow, LeadsTo, parts_equation, stage_of}
 
 pub returns-in-Clash-clause-stage : goal.returns-in-Clash-clause-stage
 returns-in-Clash-clause-stage c =
     let r = bindings_of c.step_parts.new.store in
-    let v = c.step_parts.new.work in (
-      0,
-      sym (clash_way parts_equation (bindings_of c.args.store.now) r c.args.front.now.ahead.next c.args.front.now.waiting c.args.work.now v c.step_parts.ensures.equations c.step_parts.ensures.problems
-          c.step_parts.new.ahead c.in_ok-step_parts.field-0 c.in_ok-step_parts.ensures.turn c.in-Clash.is),
-    )
+    let v = c.step_parts.new.work in
+    clash_way parts_equation (bindings_of c.args.store.now) r c.args.front.now.ahead.next c.args.front.now.waiting c.args.work.now v c.step_parts.ensures.equations c.step_parts.ensures.problems
+    c.step_parts.new.ahead c.in_ok-step_parts.field-0 c.in_ok-step_parts.ensures.turn c.in-Clash.is
 
 pub returns-in-Done-clause-stage : goal.returns-in-Done-clause-stage
 returns-in-Done-clause-stage c =
     let r = bindings_of c.step_parts.new.store in
-    let v = c.step_parts.new.work in (
-      0,
-      sym (c.after_done.ensures.way parts_equation r v
-          ∙ done_way parts_equation (bindings_of c.args.store.now) r c.args.front.now.ahead.next c.args.front.now.waiting c.args.work.now v c.step_parts.ensures.equations c.step_parts.ensures.problems
-          c.step_parts.new.ahead c.in_ok-step_parts.field-0 c.in_ok-step_parts.ensures.turn c.in-Done.is),
-    )
+    let v = c.step_parts.new.work in
+    subst (LeadsTo (stage_of parts_equation (bindings_of c.args.store.now) c.args.front.now.ahead.next c.args.front.now.waiting c.args.work.now)) (sym (c.after_done.ensures.way parts_equation r v))
+    (done_way parts_equation (bindings_of c.args.store.now) r c.args.front.now.ahead.next c.args.front.now.waiting c.args.work.now v c.step_parts.ensures.equations c.step_parts.ensures.problems
+    c.step_parts.new.ahead c.in_ok-step_parts.field-0 c.in_ok-step_parts.ensures.turn c.in-Done.is)
 
 pub returns-in-Done-clause-below : goal.returns-in-Done-clause-below
 returns-in-Done-clause-below c = c.after_done.ensures.below parts_equation (present c.args.store.now).next c.requires.waiting
@@ -37,11 +32,9 @@ returns-in-Done-clause-marks c =
 pub returns-in-On-clause-stage : goal.returns-in-On-clause-stage
 returns-in-On-clause-stage c =
     let r = bindings_of c.step_parts.new.store in
-    let v = c.step_parts.new.work in (
-      0,
-      sym (on_way parts_equation (bindings_of c.args.store.now) r c.args.front.now.ahead.next c.args.front.now.waiting c.args.work.now v c.step_parts.ensures.equations c.step_parts.ensures.problems
-          c.step_parts.new.ahead c.in_ok-step_parts.field-0 c.in_ok-step_parts.ensures.turn c.in-On.is),
-    )
+    let v = c.step_parts.new.work in
+    on_way parts_equation (bindings_of c.args.store.now) r c.args.front.now.ahead.next c.args.front.now.waiting c.args.work.now v c.step_parts.ensures.equations c.step_parts.ensures.problems
+    c.step_parts.new.ahead c.in_ok-step_parts.field-0 c.in_ok-step_parts.ensures.turn c.in-On.is
 
 pub returns-in-On-clause-below : goal.returns-in-On-clause-below
 returns-in-On-clause-below c =
@@ -68,12 +61,10 @@ returns-in_ok-put_waiting-in-Both-clause-below c =
 pub returns-in_ok-put_waiting-in-Both-clause-stage : goal.returns-in_ok-put_waiting-in-Both-clause-stage
 returns-in_ok-put_waiting-in-Both-clause-stage c =
     let r = bindings_of c.step_parts.new.store in
-    let v = c.step_parts.new.work in (
-      0,
-      sym (both_way parts_equation (bindings_of c.args.store.now) r c.args.front.now.ahead.next c.args.front.now.waiting c.args.work.now v c.step_parts.ensures.equations c.step_parts.ensures.problems
-          c.step_parts.new.ahead c.in_ok-step_parts.field-0 c.in_ok-step_parts.ensures.turn c.put_waiting.new.work c.in_ok-put_waiting-in-Both.ensures.equations c.put_waiting.ensures.problems
-          c.in-Both.is),
-    )
+    let v = c.step_parts.new.work in
+    both_way parts_equation (bindings_of c.args.store.now) r c.args.front.now.ahead.next c.args.front.now.waiting c.args.work.now v c.step_parts.ensures.equations c.step_parts.ensures.problems
+    c.step_parts.new.ahead c.in_ok-step_parts.field-0 c.in_ok-step_parts.ensures.turn
+    c.put_waiting.new.work c.in_ok-put_waiting-in-Both.ensures.equations c.put_waiting.ensures.problems c.in-Both.is
 
 pub returns-in_ok-put_waiting-in-Both-clause-goes_on : goal.returns-in_ok-put_waiting-in-Both-clause-goes_on
 returns-in_ok-put_waiting-in-Both-clause-goes_on c =
@@ -95,12 +86,10 @@ pub returns-in_ok-solved-in-Other-clause-stage : goal.returns-in_ok-solved-in-Ot
 returns-in_ok-solved-in-Other-clause-stage c =
     let r = bindings_of c.step_parts.new.store in
     let v = c.step_parts.new.work in
-    let before = stage_of parts_equation (bindings_of c.args.store.now) c.args.front.now.ahead.next c.args.front.now.waiting c.args.work.now in
-    let p = progress_if c.in_ok-solved-in-Other.solved (work_stage (bindings_of c.by_closures.new.store) c.by_closures.new.work) in
-    leads_alike (stage_with parts_equation r c.step_parts.new.ahead.next c.put_waiting-in-Other.new.work) before p
-    (other_way parts_equation (bindings_of c.args.store.now) r c.args.front.now.ahead.next c.args.front.now.waiting c.args.work.now v c.step_parts.ensures.equations c.step_parts.ensures.problems
-    c.step_parts.new.ahead c.in_ok-step_parts.field-0 c.in_ok-step_parts.ensures.turn c.put_waiting-in-Other.new.work c.in_ok-put_waiting-in-Other.ensures.equations c.put_waiting-in-Other.ensures.problems c.in-Other.is)
-    c.in_ok-solved-in-Other.ensures.stage
+    other_way parts_equation (bindings_of c.args.store.now) r c.args.front.now.ahead.next c.args.front.now.waiting c.args.work.now v c.step_parts.ensures.equations c.step_parts.ensures.problems
+    c.step_parts.new.ahead c.in_ok-step_parts.field-0 c.in_ok-step_parts.ensures.turn
+    c.put_waiting-in-Other.new.work c.in_ok-put_waiting-in-Other.ensures.equations c.put_waiting-in-Other.ensures.problems c.in-Other.is
+    (progress_if c.in_ok-solved-in-Other.solved (work_stage (bindings_of c.by_closures.new.store) c.by_closures.new.work)) c.in_ok-solved-in-Other.ensures.stage
 
 pub returns-in_ok-solved-in-Other-clause-goes_on : goal.returns-in_ok-solved-in-Other-clause-goes_on
 returns-in_ok-solved-in-Other-clause-goes_on c =
