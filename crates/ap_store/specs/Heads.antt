@@ -1,18 +1,20 @@
 -- Terms whose head is no bound variable.
-use Rattle.std.specs.Prelude.{◌≡◌, ◌<◌, ℕ, List, Option, Some, None}
+use Rattle.std.specs.Prelude.{◌≡◌, ◌<◌, ℕ, List, [], Option, Some, None}
 use Rattle.ap_defs.specs.Renaming.{IsBelow}
 use Rattle.ap_defs.specs.Substitution.{Binding, under}
-use Rattle.ap_defs.specs.Terms.{NominalTerm, act_term, susp}
+use Rattle.ap_defs.specs.Terms.{NominalTerm, susp, term_of}
 use Rattle.ap_defs.specs.declared.terms.Swap.{Swap}
 use Rattle.ap_defs.specs.declared.terms.Var.{Var}
 use Rattle.ap_perm.specs.Closures.{closure_term}
 use Rattle.ap_perm.specs.Lookups.{depth_of}
 use Rattle.ap_defs.specs.HeadKeys.{head_key}
 use Rattle.ap_theory.specs.Variables.{IsUnbound}
-use Rattle.ap_store.specs.Founds.{bare_term}
+use Rattle.ap_store.specs.Likes.{AreAlike}
 use Rattle.ap_store.specs.Triples.{Triple}
 use Rattle.ap_store.specs.declared.following.Followed.{Followed}
 use Rattle.ap_store.specs.declared.following.Followed.TheVariants as steps
+use Rattle.ap_store.specs.declared.heads.Head.{Head}
+use Rattle.ap_store.specs.declared.heads.Head.TheVariants as heads
 use Rattle.ap_store.specs.declared.heads.HeadLook.{HeadLook}
 use Rattle.ap_store.specs.declared.heads.HeadLook.TheVariants as looks
 
@@ -37,13 +39,18 @@ abbrev pub IsHeadVar : List Binding → NominalTerm → Option Var → Type 0
 IsHeadVar bs t None = HasForm t
 IsHeadVar bs t (Some x) = IsUnbound bs x × ((p : List Swap) × (t ≡ susp p x))
 
--- the head of what the term stands for, or a term below bindings for which it stands but for swappings
-abbrev pub IsHeadLook : Triple → (Var → ℕ) → NominalTerm → HeadLook → Type 0
-IsHeadLook a rank t (looks.Ends o) = IsHeadVar a.bindings (under a.bindings t) o
-IsHeadLook a rank t (looks.Further b) =
-    ((p : List Swap) × (under a.bindings t ≡ act_term p (under a.bindings (bare_term b)))) × (depth_of rank (bare_term b) < depth_of rank t)
+-- what stands at the head of the term: an unbound variable, or a term that begins alike
+abbrev pub IsHead : List Binding → NominalTerm → Head → Type 0
+IsHead bs t (heads.Open x) = IsHeadVar bs t (Some x)
+IsHead bs t (heads.Form u) = HasForm t × (head_key t ≡ head_key (term_of u.now))
 
--- under the bindings the first term begins as the second, to which the variable at its head is bound
-abbrev pub IsHeadOf : Triple → (Var → ℕ) → NominalTerm → NominalTerm → Type 0
-IsHeadOf a rank t u =
-    (head_key (under a.bindings t) ≡ head_key (under a.bindings u)) × (depth_of rank u < depth_of rank t)
+-- a term in which no binding is carried out is a suspension of the variable, or none
+abbrev pub IsLookIn : NominalTerm → HeadLook → Type 0
+IsLookIn t (looks.Ends (heads.Open x)) = ⊥
+IsLookIn t (looks.Ends (heads.Form u)) = HasForm t × (head_key t ≡ head_key (term_of u.now))
+IsLookIn t (looks.Further y) = (p : List Swap) × (t ≡ susp p y)
+
+-- the head of what the variable stands for, or a variable below bindings that stands for a term like its own
+abbrev pub IsHeadLook : Triple → (Var → ℕ) → Var → HeadLook → Type 0
+IsHeadLook a rank x (looks.Ends h) = IsHead a.bindings (under a.bindings (susp [] x)) h
+IsHeadLook a rank x (looks.Further y) = AreAlike (under a.bindings (susp [] x)) (under a.bindings (susp [] y)) × (rank y < rank x)

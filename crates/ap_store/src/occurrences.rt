@@ -1,16 +1,17 @@
 //! Occurrences of variables.
 
-ghost use Rattle.std.specs.Prelude.{◌≡◌, ◌==◌, ◌↔◌, ◌⊎◌, ℕ, [], true, Some, if◌then◌else◌, IfOk, IsTrue};
-ghost use Rattle.ap_defs.specs.Substitution.{occurs, under};
-ghost use Rattle.ap_defs.specs.Terms.{susp, term_of, unit};
+ghost use Rattle.std.specs.Prelude.{◌≡◌, ◌==◌, ◌↔◌, ◌⊎◌, ℕ, List, [], true, Some, if◌then◌else◌, IfOk, IsTrue};
+ghost use Rattle.ap_defs.specs.Substitution.{Binding, occurs, under};
+ghost use Rattle.ap_defs.specs.Terms.{NominalTerm, susp, term_of, unit};
 ghost use Rattle.ap_defs.specs.declared.terms.Var.{Var as variable};
 ghost use Rattle.ap_store.specs.Founds.{IsOnce, IsSight, bare_term, does_occur, occurs_in};
-ghost use Rattle.ap_store.specs.Likes.{HaveSameVars};
+ghost use Rattle.ap_store.specs.Likes.{HaveSameVars, IsAlike};
 ghost use Rattle.ap_store.specs.Marks.{HasNoVars, IsConstant};
 ghost use Rattle.ap_store.specs.Slots.{var_at};
 ghost use Rattle.ap_store.specs.Views.{bindings_of, meaning_in};
 
 use crate::bare::Bare;
+use crate::likes::Like;
 use crate::narrow::{Narrowed, narrow_down};
 use crate::passed::{Passed, is_passed, pass};
 use crate::slots::Found;
@@ -45,19 +46,32 @@ impl Occurrence {
         matches!(self, Occurrence::Ground)
     }
 
-    /// The number of the variable whose variables stand there, if it is known.
-    pub(crate) fn like(self) -> Option<u32>
-        ensures { (w : ℕ) → result ≡ Some w → self ≡ Occurrence.Like (var_at w) }
+    /// What is kept beside a variable that is bound to such a term.
+    pub(crate) fn like(self) -> Like
+        ensures { (bs : List Binding) (t : NominalTerm) →
+            ((w : variable) → self ≡ Occurrence.Like w →
+            HaveSameVars (under bs t) (under bs (susp [] w))) → IsAlike result bs t }
     {
         match self {
-            Occurrence::Like(w) => num_of(w),
-            _ => None,
+            Occurrence::Like(w) => like_by_vars(w),
+            _ => Like::Nothing,
         }
     }
 }
 
+/// What is kept beside a variable that is bound to a term with the variables of another one.
+fn like_by_vars(w: Var) -> Like
+    ensures { (bs : List Binding) (t : NominalTerm) →
+        HaveSameVars (under bs t) (under bs (susp [] w)) → IsAlike result bs t }
+{
+    match num_of(w) {
+        None => Like::Nothing,
+        Some(num) => Like::Vars(num),
+    }
+}
+
 /// The number of a variable, if it is so small as each is.
-fn num_of(x: Var) -> Option<u32>
+pub(crate) fn num_of(x: Var) -> Option<u32>
     ensures { (n : ℕ) → result ≡ Some n → x ≡ var_at n }
 {
     if x.num <= u32::MAX as u64 {
