@@ -20,7 +20,7 @@ returns-else-num-num c =
     let s = c.args.store.now in
     let bs = bindings_of s in
     let b = c.args.c.now in
-    let x = rename_var b.base c.in-Susp.field-1 in
+    let x = rename_var b.base c.in-Susp.x in
     let p = b.swaps.items ++ map (rename_swap b.base) c.in-Susp.field-0 in
     let w = c.last_alike-w.result in
     subst (λ (u : Term). IsAlike c.like_by_head.result bs (act_term b.swaps.items (rename_term b.base (term_of u)))) (sym c.in-Susp.is)
