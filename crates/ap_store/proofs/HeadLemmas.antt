@@ -1,7 +1,7 @@
 -- What stands at the heads of terms.
 use Rattle.std.proofs.Common.{◌≡◌, ◌<◌, true, true≢false, List, [], refl, sym, ap, ◌∙◌, subst, append-nil, arith}
 use Rattle.std.proofs.lemmas.Bool.Decides.{nat_tests}
-use Rattle.std.specs.Prelude.{Some, None}
+use Rattle.std.specs.Prelude.{Some, None, is_some}
 use Rattle.ap_defs.specs.Freshness.{var_eq}
 use Rattle.ap_defs.specs.HeadKeys.{head_key}
 use Rattle.ap_defs.specs.Renaming.{rename_term}
@@ -17,7 +17,7 @@ use Rattle.ap_theory.proofs.SubstitutionLemmas.{under_act}
 use Rattle.ap_theory.proofs.TermLemmas.{occurs_act, var_same}
 use Rattle.ap_store.specs.Heads.{HasForm, IsHead, IsHeadLook, IsLookIn}
 use Rattle.ap_store.specs.Likes.{AreAlike, HaveSameHead, is_suspended}
-use Rattle.ap_store.specs.Views.{bindings_of, meaning_in, present, rank, raw_bound}
+use Rattle.ap_store.specs.Views.{bindings_of, meaning_in, rank, raw_bound}
 use Rattle.ap_store.specs.declared.heads.Head.{Head}
 use Rattle.ap_store.specs.declared.heads.Head.TheVariants as heads
 use Rattle.ap_store.specs.declared.heads.HeadLook.{HeadLook}
@@ -96,7 +96,7 @@ module _ (s : Store) where
       (form, k ∙ key_act p t ∙ key_rename c.base (term_of c.term.now))
 
   -- what a look at a variable finds that is bound to such a term
-  pub look_bound : (x : Var) (p : List Swap) (t : NominalTerm) (l : HeadLook) → raw_bound s x ≡ Some (act_term p t) → IsLookIn t l → IsHeadLook (present s) (rank s) x l
+  pub look_bound : (x : Var) (p : List Swap) (t : NominalTerm) (l : HeadLook) → raw_bound s x ≡ Some (act_term p t) → IsLookIn t l → IsHeadLook s x l
   look_bound x p t (looks.Ends (heads.Open y)) e h = absurd h
   look_bound x p t (looks.Ends (heads.Form v)) e (h, k) =
       let (f, g) = form_under (bindings_of s) t h in
@@ -108,6 +108,7 @@ module _ (s : Store) where
       let w = under (bindings_of s) (susp q y) in (
         subst (λ (u : NominalTerm). AreAlike u (under (bindings_of s) (susp [] y))) (sym n) (alike_trans (act_term p w) w (under (bindings_of s) (susp [] y)) (alike_act p w) (suspension_alike q y)),
         fewer q less h,
+        ap is_some e,
       )
     where
       fewer : (r : List Swap) → depth_of (rank s) t < depth_of (rank s) (susp [] x) → t ≡ susp r y → rank s y < rank s x

@@ -1,5 +1,5 @@
 -- Terms whose head is no bound variable.
-use Rattle.std.specs.Prelude.{◌≡◌, ◌<◌, ℕ, List, [], Option, Some, None}
+use Rattle.std.specs.Prelude.{◌≡◌, ◌<◌, ℕ, true, List, [], Option, Some, None, is_some}
 use Rattle.ap_defs.specs.Renaming.{IsBelow}
 use Rattle.ap_defs.specs.Substitution.{Binding, under}
 use Rattle.ap_defs.specs.Terms.{NominalTerm, susp, term_of}
@@ -11,12 +11,14 @@ use Rattle.ap_defs.specs.HeadKeys.{head_key}
 use Rattle.ap_theory.specs.Variables.{IsUnbound}
 use Rattle.ap_store.specs.Likes.{AreAlike}
 use Rattle.ap_store.specs.Triples.{Triple}
+use Rattle.ap_store.specs.Views.{bindings_of, rank, raw_bound}
 use Rattle.ap_store.specs.declared.following.Followed.{Followed}
 use Rattle.ap_store.specs.declared.following.Followed.TheVariants as steps
 use Rattle.ap_store.specs.declared.heads.Head.{Head}
 use Rattle.ap_store.specs.declared.heads.Head.TheVariants as heads
 use Rattle.ap_store.specs.declared.heads.HeadLook.{HeadLook}
 use Rattle.ap_store.specs.declared.heads.HeadLook.TheVariants as looks
+use Rattle.ap_store.specs.declared.store.Store.{Store}
 
 abbrev pub IsHeadUnbound : List Binding → NominalTerm → Type 0
 IsHeadUnbound bs (susp p x) = IsUnbound bs x
@@ -50,7 +52,8 @@ IsLookIn t (looks.Ends (heads.Open x)) = ⊥
 IsLookIn t (looks.Ends (heads.Form u)) = HasForm t × (head_key t ≡ head_key (term_of u.now))
 IsLookIn t (looks.Further y) = (p : List Swap) × (t ≡ susp p y)
 
--- the head of what the variable stands for, or a variable below bindings that stands for a term like its own
-abbrev pub IsHeadLook : Triple → (Var → ℕ) → Var → HeadLook → Type 0
-IsHeadLook a rank x (looks.Ends h) = IsHead a.bindings (under a.bindings (susp [] x)) h
-IsHeadLook a rank x (looks.Further y) = AreAlike (under a.bindings (susp [] x)) (under a.bindings (susp [] y)) × (rank y < rank x)
+-- the head of what the variable stands for, or the variable to which it is bound, which stands for a term like its own
+abbrev pub IsHeadLook : Store → Var → HeadLook → Type 0
+IsHeadLook s x (looks.Ends h) = IsHead (bindings_of s) (under (bindings_of s) (susp [] x)) h
+IsHeadLook s x (looks.Further y) =
+    AreAlike (under (bindings_of s) (susp [] x)) (under (bindings_of s) (susp [] y)) × (rank s y < rank s x) × (is_some (raw_bound s x) ≡ true)

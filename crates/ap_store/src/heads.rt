@@ -9,7 +9,7 @@ ghost use Rattle.ap_perm.specs.Closures.{closure_term};
 ghost use Rattle.ap_store.specs.Founds.{bare_term};
 ghost use Rattle.ap_store.specs.Heads.{IsHead, IsHeadLook, IsHeadVar, IsLookIn};
 ghost use Rattle.ap_store.specs.Likes.{AreAlike, IsAlike};
-ghost use Rattle.ap_store.specs.Views.{bindings_of, meaning_in, present, rank};
+ghost use Rattle.ap_store.specs.Views.{bindings_of, meaning_in};
 
 use crate::bare::Bare;
 use crate::likes::Like;
@@ -66,7 +66,7 @@ fn look_in<'a>(b: Bare<'a>) -> HeadLook<'a>
 
 /// A look at a variable. It takes no memory.
 fn look_at<'a>(store: &Store<'a>, x: Var) -> HeadLook<'a>
-    ensures { IsHeadLook (present store.now) (rank store.now) x result }
+    ensures { IsHeadLook store.now x result }
 {
     match store.bare(x) {
         None => HeadLook::Ends(Head::Open(x)),

@@ -7,7 +7,7 @@ use Rattle.ap_store.proofs.heads.head_behind.Given as goal
 
 -- the variable in hand stands for a term like that of the first one
 abbrev pub invariant-following : goal.invariant-following
-invariant-following l = AreAlike (under (bindings_of l.store) (susp [] l.x)) (under (bindings_of l.store) (susp [] l.y))
+invariant-following l = AreAlike (under (bindings_of l.store) (susp [] l.fn.x)) (under (bindings_of l.store) (susp [] l.y))
 
 abbrev pub decreases-following : goal.decreases-following
 decreases-following l = rank l.store l.y

@@ -15,8 +15,8 @@ overflow_add-x c =
     let l : b.base + c.in-Susp.x.num < b.end = k.1 in
     omega arith
 
-pub returns-else-num-num : goal.returns-else-num-num
-returns-else-num-num c =
+pub returns-else-w-x : goal.returns-else-w-x
+returns-else-w-x c =
     let s = c.args.store.now in
     let bs = bindings_of s in
     let b = c.args.c.now in

@@ -1,4 +1,4 @@
-use Rattle.std.proofs.Common.{◌≡◌, ◌<◌, ◌++◌, ◌∷◌, [], ap, ap₂, sym, subst, ◌∙◌}
+use Rattle.std.proofs.Common.{◌≡◌, ◌<◌, ◌++◌, ◌∷◌, [], List, ap, ap₂, sym, subst, ◌∙◌}
 use Rattle.std.specs.Prelude.{Some}
 use Rattle.ap_defs.specs.Renaming.{IsBelow, rename_term}
 use Rattle.ap_defs.specs.Substitution.{occurs, under}
