@@ -20,7 +20,7 @@ pub following-smaller : goal.following-smaller
 following-smaller c =
     let s = c.args.store.now in
     let h = subst (IsHeadLook s c.following.y) c.in-Further.is c.look_at.ensures in
-    h.1.0
+    h.1
 
 pub returns-in-Ends : goal.returns-in-Ends
 returns-in-Ends c =

@@ -18,4 +18,4 @@ pub returns-in-Some : goal.returns-in-Some
 returns-in-Some c =
     let s = c.args.store.now in
     let h = subst (IsHeadLook s c.args.x) c.in-Further.is c.look_at.ensures in
-    λ w e. c.alike.ensures w (c.in-Some.is ∙ e) h.1.1
+    λ w e. c.alike.ensures w (c.in-Some.is ∙ e) h.2
