@@ -1,9 +1,9 @@
 -- Variables that are followed to the closures to which they are bound.
 use Rattle.std.proofs.Common.{◌≡◌, ◌<◌, ◌≤◌, ◌+◌, ◌||◌, ℕ, Bool, true, false, List, ◌++◌, map, refl, sym, ap, ◌∙◌, subst, arith}
-use Rattle.std.specs.Prelude.{Option, Some, None, is_some}
+use Rattle.std.specs.Prelude.{Some, None, is_some}
 use Rattle.ap_defs.specs.Freshness.{var_eq}
 use Rattle.ap_defs.specs.Renaming.{AreSwapsBelow, IsBelow, rename_swap, rename_term, rename_var}
-use Rattle.ap_defs.specs.Substitution.{Binding, moved, occurs, under}
+use Rattle.ap_defs.specs.Substitution.{moved, occurs, under}
 use Rattle.ap_defs.specs.Terms.{NominalTerm, pair, act_term, susp, term_of}
 use Rattle.ap_defs.specs.declared.terms.Swap.{Swap}
 use Rattle.ap_defs.specs.declared.terms.Term.{Term}

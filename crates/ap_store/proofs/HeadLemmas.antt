@@ -4,20 +4,17 @@ use Rattle.std.proofs.lemmas.Bool.Decides.{nat_tests}
 use Rattle.std.specs.Prelude.{Some, None, is_some}
 use Rattle.ap_defs.specs.Freshness.{var_eq}
 use Rattle.ap_defs.specs.HeadKeys.{head_key}
-use Rattle.ap_defs.specs.Renaming.{rename_term}
 use Rattle.ap_defs.specs.Substitution.{Binding, under}
-use Rattle.ap_defs.specs.Terms.{NominalTerm, abs, act_term, app, name, pair, susp, term_of, unit}
+use Rattle.ap_defs.specs.Terms.{NominalTerm, abs, act_term, app, name, pair, susp, unit}
 use Rattle.ap_defs.specs.declared.terms.Swap.{Swap}
 use Rattle.ap_defs.specs.declared.terms.Var.{Var}
-use Rattle.ap_perm.specs.Closures.{closure_term}
 use Rattle.ap_perm.specs.Lookups.{depth_of}
-use Rattle.ap_perm.specs.declared.closures.Closure.{Closure}
-use Rattle.ap_theory.proofs.HeadKeyLemmas.{key_act, key_rename}
+use Rattle.ap_theory.proofs.HeadKeyLemmas.{key_act}
 use Rattle.ap_theory.proofs.SubstitutionLemmas.{under_act}
 use Rattle.ap_theory.proofs.TermLemmas.{occurs_act, var_same}
 use Rattle.ap_store.specs.Heads.{HasForm, IsHead, IsHeadLook, IsLookIn}
 use Rattle.ap_store.specs.Likes.{AreAlike, HaveSameHead, is_suspended}
-use Rattle.ap_store.specs.Views.{bindings_of, meaning_in, rank, raw_bound}
+use Rattle.ap_store.specs.Views.{bindings_of, rank, raw_bound}
 use Rattle.ap_store.specs.declared.heads.Head.{Head}
 use Rattle.ap_store.specs.declared.heads.Head.TheVariants as heads
 use Rattle.ap_store.specs.declared.heads.HeadLook.{HeadLook}
@@ -86,14 +83,6 @@ module _ (s : Store) where
       let e : under (bindings_of s) (susp p x) ≡ act_term p (under (bindings_of s) (susp [] x)) =
       ap (λ q. under (bindings_of s) (susp q x)) (sym (append-nil p)) ∙ under_act (bindings_of s) p (susp [] x) in
       subst (λ (t : NominalTerm). AreAlike t (under (bindings_of s) (susp [] x))) (sym e) (alike_act p (under (bindings_of s) (susp [] x)))
-
-  -- a closure that is no suspension begins as its term
-  pub closure_form : (c : Closure) → HasForm (rename_term c.base (term_of c.term.now)) → IsHead (bindings_of s) (meaning_in s c) (heads.Form c.term)
-  closure_form c h =
-      let t = rename_term c.base (term_of c.term.now) in
-      let p = c.swaps.items in
-      let (form, k) = form_under (bindings_of s) (act_term p t) (form_act p t h) in
-      (form, k ∙ key_act p t ∙ key_rename c.base (term_of c.term.now))
 
   -- what a look at a variable finds that is bound to such a term
   pub look_bound : (x : Var) (p : List Swap) (t : NominalTerm) (l : HeadLook) → raw_bound s x ≡ Some (act_term p t) → IsLookIn t l → IsHeadLook s x l

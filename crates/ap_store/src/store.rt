@@ -58,7 +58,7 @@ pub struct Store<'a> {
 }
 
 impl<'a> Store<'a> {
-    ghost use Rattle.std.specs.Prelude.{◌≡◌, ℕ, ◌+◌, ◌≤◌, ◌<◌, ◌++◌, ◌∷◌, [], false, true, Some, IfOk, OnOk, OnErr, filter, length, take, vec_len, vec_capacity};
+    ghost use Rattle.std.specs.Prelude.{◌≡◌, ◌+◌, ◌≤◌, ◌<◌, ◌++◌, ◌∷◌, [], false, true, Some, IfOk, OnOk, OnErr, filter, length, take, vec_len, vec_capacity};
     ghost use Rattle.ap_defs.specs.Renaming.{IsBelow, rename_term};
     ghost use Rattle.ap_defs.specs.Resolution.{kinds_of};
     ghost use Rattle.ap_defs.specs.Substitution.{occurs, under};

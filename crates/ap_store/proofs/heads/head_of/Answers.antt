@@ -5,7 +5,7 @@ use Rattle.ap_defs.specs.Terms.{act_term, susp, term_of}
 use Rattle.ap_defs.specs.declared.terms.Term.{Term}
 use Rattle.ap_store.specs.Heads.{IsHead}
 use Rattle.ap_store.specs.Views.{bindings_of}
-use Rattle.ap_store.proofs.HeadLemmas.{closure_form, head_same, suspension_alike}
+use Rattle.ap_store.proofs.HeadLemmas.{head_same, suspension_alike}
 use Rattle.ap_store.proofs.heads.head_of.Goals as goal
 
 pub overflow_add-x : goal.overflow_add-x

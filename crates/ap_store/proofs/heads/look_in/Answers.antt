@@ -1,5 +1,5 @@
-use Rattle.std.proofs.Common.{◌<◌, ◌+◌, map, sym, ap, subst, arith}
-use Rattle.ap_defs.specs.Renaming.{IsBelow, rename_swap, rename_term, rename_var}
+use Rattle.std.proofs.Common.{◌<◌, ◌+◌, map, ap, subst, arith}
+use Rattle.ap_defs.specs.Renaming.{IsBelow, rename_swap, rename_term}
 use Rattle.ap_defs.specs.Terms.{term_of}
 use Rattle.ap_defs.specs.declared.terms.Term.{Term}
 use Rattle.ap_store.proofs.heads.look_in.Goals as goal

@@ -1,4 +1,4 @@
-use Rattle.std.proofs.Common.{◌≤◌, length, sym, ◌∙◌, arith}
+use Rattle.std.proofs.Common.{◌≤◌, length, ◌∙◌, arith}
 use Rattle.ap_store.proofs.LikeLemmas.{like_in_apart, like_in_beyond, like_in_here, nothing_alike}
 use Rattle.ap_store.proofs.likes.keep_like.Goals as goal
 
