@@ -4,7 +4,7 @@ ghost use Rattle.std.specs.Prelude.{◌≡◌, ◌==◌, ◌↔◌, ◌⊎◌, �
 ghost use Rattle.ap_defs.specs.Substitution.{Binding, occurs, under};
 ghost use Rattle.ap_defs.specs.Terms.{NominalTerm, susp, term_of, unit};
 ghost use Rattle.ap_defs.specs.declared.terms.Var.{Var as variable};
-ghost use Rattle.ap_store.specs.Founds.{IsOnce, IsSight, bare_term, does_occur, occurs_in};
+ghost use Rattle.ap_store.specs.Founds.{IsOnce, IsSight, IsPartStep, bare_term, does_occur, occurs_in};
 ghost use Rattle.ap_store.specs.Likes.{HaveSameVars, IsAlike};
 ghost use Rattle.ap_store.specs.Marks.{HasNoVars, IsConstant};
 ghost use Rattle.ap_store.specs.Slots.{var_at};
@@ -139,11 +139,34 @@ fn without(is_open: bool) -> Occurrence
     }
 }
 
-/// The number that those in a term are below.
-fn end_of(b: Bare<'_>) -> u64
-    ensures { result ≡ b.entry.end }
+/// What a part begins with, for a look at its variables: it has none; all of it stands in another part; all of it
+/// stands in two parts; or it is a suspension of a variable.
+#[derive(Clone, Copy)]
+pub enum Step<'a> {
+    Leaf,
+    Inner(Bare<'a>),
+    Both(Bare<'a>, Bare<'a>),
+    Variable(Var),
+}
+
+/// What a part begins with. It takes no memory.
+fn step_of<'a>(b: Bare<'a>) -> Step<'a>
+    ensures { IsPartStep (bare_term b.entry) result }
 {
-    b.end
+    let _end = b.end;
+    match b.term {
+        Term::Unit => Step::Leaf,
+        Term::Name(_) => Step::Leaf,
+        Term::Pair(left, right) => Step::Both(b.with_term(left), b.with_term(right)),
+        Term::App(_, inner) => Step::Inner(b.with_term(inner)),
+        Term::Abs(_, _, inner) => Step::Inner(b.with_term(inner)),
+        Term::Susp(_, x) => {
+            let x = Var {
+                num: b.base + x.num,
+            };
+            Step::Variable(x)
+        }
+    }
 }
 
 /// Whether the variable occurs in what a part stands for. The right parts of pairs wait on a stack while the left
@@ -163,60 +186,39 @@ fn occurs_below<'a>(
 {
     let mut is_open = false;
     let mut waiting = Vec::new(alloc);
-    let mut passed = Passed {
-        marks: Vec::new(alloc),
-        count: 0,
-    };
-    let mut base = first.base;
-    let mut end = first.end;
-    let mut rest = first.term;
+    let mut passed = Passed::new(alloc);
+    let mut here = first;
     'seeking: loop {
-        match rest {
-            Term::Unit => {}
-            Term::Name(_) => {}
-            Term::Pair(left, right) => {
-                waiting.push(Bare {
-                    base,
-                    end,
-                    term: right,
-                })?;
-                rest = left;
+        match step_of(here) {
+            Step::Leaf => {}
+            Step::Inner(inner) => {
+                here = inner;
                 continue;
             }
-            Term::App(_, inner) => {
-                rest = inner;
+            Step::Both(left, right) => {
+                waiting.push(right)?;
+                here = left;
                 continue;
             }
-            Term::Abs(_, _, inner) => {
-                rest = inner;
-                continue;
-            }
-            Term::Susp(_, y) => {
-                let y = Var { num: base + y.num };
-                match seen_once(store, &passed, y) {
-                    Once::Below(b) => {
-                        pass(alloc, &mut passed, store.next(), y)?;
-                        base = b.base;
-                        end = end_of(b);
-                        rest = b.term;
-                        continue;
-                    }
-                    Once::Nothing => {}
-                    Once::Unbound => {
-                        if x.num == y.num {
-                            return Ok(Occurrence::Occurs);
-                        }
-                        is_open = true;
-                    }
+            Step::Variable(y) => match seen_once(store, &passed, y) {
+                Once::Below(b) => {
+                    pass(alloc, &mut passed, store.next(), y)?;
+                    here = b;
+                    continue;
                 }
-            }
+                Once::Nothing => {}
+                Once::Unbound => {
+                    if x.num == y.num {
+                        return Ok(Occurrence::Occurs);
+                    }
+                    is_open = true;
+                }
+            },
         }
         let Some(next) = waiting.pop() else {
             return Ok(without(is_open));
         };
-        base = next.base;
-        end = end_of(next);
-        rest = next.term;
+        here = next;
     }
 }
 
@@ -276,25 +278,27 @@ fn occurs_in_part<'a>(
 
 /// Whether a term is the one without parts.
 fn is_unit(t: &Term) -> bool
-    ensures { result ≡ true → term_of t.now ≡ unit }
+    ensures { IsTrue result ↔ (term_of t.now ≡ unit) }
 {
     matches!(t, Term::Unit)
 }
 
 /// Whether a term has no variables because it is a name, a constant, or the one without parts. It takes no memory.
 fn is_constant(t: &Term) -> bool
-    ensures { result ≡ true → IsConstant (term_of t.now) }
+    ensures { IsTrue result ↔ IsConstant (term_of t.now) }
 {
     match t {
-        Term::Unit | Term::Name(_) => true,
+        Term::Unit => true,
+        Term::Name(_) => true,
         Term::App(_, argument) => is_unit(argument),
         Term::Pair(_, _) | Term::Abs(_, _, _) | Term::Susp(_, _) => false,
     }
 }
 
 impl<'a> Store<'a> {
-    /// Whether a variable occurs in what a closure stands for under the bindings. It looks no further than at a
-    /// constant, or where the variable is new, and takes memory where a left part of a pair is looked through alone.
+    /// Whether a variable occurs in what a closure stands for under the bindings. A constant has no variables, and one
+    /// that is new stands nowhere: then it looks no further. It takes memory where a left part of a pair is looked
+    /// through alone.
     #[inline(always)]
     pub fn occurs(&self, alloc: Global, x: Var, c: &Closure<'a>) -> Result<Occurrence, Memory>
         ensures found { IfOk result (λ o. does_occur o ≡ occurs x (meaning_in self.now c.now)) }
