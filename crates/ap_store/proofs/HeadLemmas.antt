@@ -12,7 +12,7 @@ use Rattle.ap_perm.specs.Lookups.{depth_of}
 use Rattle.ap_theory.proofs.HeadKeyLemmas.{key_act}
 use Rattle.ap_theory.proofs.SubstitutionLemmas.{under_act}
 use Rattle.ap_theory.proofs.TermLemmas.{occurs_act, var_same}
-use Rattle.ap_store.specs.Heads.{HasForm, IsHead, IsHeadLook, IsLookIn}
+use Rattle.ap_store.specs.Heads.{HasForm, IsAtHead, IsHeadLook, IsLookIn}
 use Rattle.ap_store.specs.Likes.{AreAlike, HaveSameHead, is_suspended}
 use Rattle.ap_store.specs.Views.{bindings_of, rank, raw_bound}
 use Rattle.ap_store.specs.declared.heads.Head.{Head}
@@ -70,7 +70,7 @@ form_by_key (susp p x) (abs a t) e h = absurd (omega (arith, e))
 form_by_key (susp p x) (susp q y) e h = absurd h
 
 -- terms that begin alike have the same head
-pub head_same : (bs : List Binding) (t u : NominalTerm) (h : Head) → HaveSameHead t u → IsHead bs u h → IsHead bs t h
+pub head_same : (bs : List Binding) (t u : NominalTerm) (h : Head) → HaveSameHead t u → IsAtHead bs u h → IsAtHead bs t h
 head_same bs t u (heads.Open x) s (unbound, (p, e)) =
     let same : var_eq x x ≡ true = grind (arith, nat_tests) in
     (unbound, suspended_is x t (s.1 x ∙ ap (is_suspended x) e ∙ same))
@@ -90,7 +90,7 @@ module _ (s : Store) where
   look_bound x p t (looks.Ends (heads.Form v)) e (h, k) =
       let (f, g) = form_under (bindings_of s) t h in
       let (m, _) = bound_look s [] x p t e in
-      subst (λ (u : NominalTerm). IsHead (bindings_of s) u (heads.Form v)) (sym m) (form_act p (under (bindings_of s) t) f, key_act p (under (bindings_of s) t) ∙ g ∙ k)
+      subst (λ (u : NominalTerm). IsAtHead (bindings_of s) u (heads.Form v)) (sym m) (form_act p (under (bindings_of s) t) f, key_act p (under (bindings_of s) t) ∙ g ∙ k)
   look_bound x p t (looks.Further y) e (q, h) =
       let (m, less) = bound_look s [] x p t e in
       let n = m ∙ ap (λ (u : NominalTerm). act_term p (under (bindings_of s) u)) h in
@@ -103,5 +103,5 @@ module _ (s : Store) where
       fewer : (r : List Swap) → depth_of (rank s) t < depth_of (rank s) (susp [] x) → t ≡ susp r y → rank s y < rank s x
       fewer r l i = let k : depth_of (rank s) t ≡ depth_of (rank s) (susp r y) = ap (depth_of (rank s)) i in omega (arith, l, k)
 
-  pub look_unbound : (x : Var) → raw_bound s x ≡ None → IsHead (bindings_of s) (under (bindings_of s) (susp [] x)) (heads.Open x)
+  pub look_unbound : (x : Var) → raw_bound s x ≡ None → IsAtHead (bindings_of s) (under (bindings_of s) (susp [] x)) (heads.Open x)
   look_unbound x e = (unbound_var s x e, ([], unbound_under s [] x e))

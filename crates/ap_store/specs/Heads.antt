@@ -42,9 +42,9 @@ IsHeadVar bs t None = HasForm t
 IsHeadVar bs t (Some x) = IsUnbound bs x × ((p : List Swap) × (t ≡ susp p x))
 
 -- what stands at the head of the term: an unbound variable, or a term that begins alike
-abbrev pub IsHead : List Binding → NominalTerm → Head → Type 0
-IsHead bs t (heads.Open x) = IsHeadVar bs t (Some x)
-IsHead bs t (heads.Form u) = HasForm t × (head_key t ≡ head_key (term_of u.now))
+abbrev pub IsAtHead : List Binding → NominalTerm → Head → Type 0
+IsAtHead bs t (heads.Open x) = IsHeadVar bs t (Some x)
+IsAtHead bs t (heads.Form u) = HasForm t × (head_key t ≡ head_key (term_of u.now))
 
 -- a term in which no binding is carried out is a suspension of the variable, or none
 abbrev pub IsLookIn : NominalTerm → HeadLook → Type 0
@@ -54,6 +54,6 @@ IsLookIn t (looks.Further y) = (p : List Swap) × (t ≡ susp p y)
 
 -- the head of what the variable stands for, or the variable to which it is bound, which stands for a term like its own
 abbrev pub IsHeadLook : Store → Var → HeadLook → Type 0
-IsHeadLook s x (looks.Ends h) = IsHead (bindings_of s) (under (bindings_of s) (susp [] x)) h
+IsHeadLook s x (looks.Ends h) = IsAtHead (bindings_of s) (under (bindings_of s) (susp [] x)) h
 IsHeadLook s x (looks.Further y) =
     AreAlike (under (bindings_of s) (susp [] x)) (under (bindings_of s) (susp [] y)) × (rank s y < rank s x) × (is_some (raw_bound s x) ≡ true)

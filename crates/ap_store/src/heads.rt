@@ -7,7 +7,7 @@ ghost use Rattle.ap_defs.specs.Terms.{NominalTerm, susp, term_of};
 ghost use Rattle.ap_defs.specs.declared.terms.Var.{Var as variable};
 ghost use Rattle.ap_perm.specs.Closures.{closure_term};
 ghost use Rattle.ap_store.specs.Founds.{bare_term};
-ghost use Rattle.ap_store.specs.Heads.{IsHead, IsHeadLook, IsHeadVar, IsLookIn};
+ghost use Rattle.ap_store.specs.Heads.{IsAtHead, IsHeadLook, IsHeadVar, IsLookIn};
 ghost use Rattle.ap_store.specs.Likes.{AreAlike, IsAlike};
 ghost use Rattle.ap_store.specs.Views.{bindings_of, meaning_in};
 
@@ -107,7 +107,7 @@ fn last_alike(store: &Store<'_>, x: Var) -> Var
 
 /// What stands at the head of what a variable stands for, which may stand behind many others. It takes no memory.
 fn head_behind<'a>(store: &Store<'a>, x: Var) -> Head<'a>
-    ensures { IsHead (bindings_of store.now) (under (bindings_of store.now) (susp [] x)) result }
+    ensures { IsAtHead (bindings_of store.now) (under (bindings_of store.now) (susp [] x)) result }
 {
     let mut y = last_alike(store, x);
     'following: loop {
@@ -120,7 +120,7 @@ fn head_behind<'a>(store: &Store<'a>, x: Var) -> Head<'a>
 
 /// What stands at the head of what a variable stands for. It takes no memory.
 fn head_at<'a>(store: &Store<'a>, x: Var) -> Head<'a>
-    ensures { IsHead (bindings_of store.now) (under (bindings_of store.now) (susp [] x)) result }
+    ensures { IsAtHead (bindings_of store.now) (under (bindings_of store.now) (susp [] x)) result }
 {
     match look_at(store, x) {
         HeadLook::Ends(head) => head,
@@ -130,7 +130,7 @@ fn head_at<'a>(store: &Store<'a>, x: Var) -> Head<'a>
 
 /// What stands at the head of what a closure stands for under the bindings. It takes no memory.
 fn head_of<'a>(store: &Store<'a>, c: &Closure<'a>) -> Head<'a>
-    ensures { IsHead (bindings_of store.now) (meaning_in store.now c.now) result }
+    ensures { IsAtHead (bindings_of store.now) (meaning_in store.now c.now) result }
 {
     let _end = c.end;
     match c.term {

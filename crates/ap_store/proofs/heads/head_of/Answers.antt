@@ -3,7 +3,7 @@ use Rattle.ap_defs.specs.Renaming.{IsBelow, rename_swap, rename_term, rename_var
 use Rattle.ap_defs.specs.Substitution.{under}
 use Rattle.ap_defs.specs.Terms.{act_term, susp, term_of}
 use Rattle.ap_defs.specs.declared.terms.Term.{Term}
-use Rattle.ap_store.specs.Heads.{IsHead}
+use Rattle.ap_store.specs.Heads.{IsAtHead}
 use Rattle.ap_store.specs.Views.{bindings_of}
 use Rattle.ap_store.proofs.HeadLemmas.{head_same, suspension_alike}
 use Rattle.ap_store.proofs.heads.head_of.Goals as goal
@@ -22,5 +22,5 @@ returns-in-Susp c =
     let b = c.args.c.now in
     let x = rename_var b.base c.in-Susp.x in
     let p = b.swaps.items ++ map (rename_swap b.base) c.in-Susp.field-0 in
-    subst (λ (u : Term). IsHead bs (under bs (act_term b.swaps.items (rename_term b.base (term_of u)))) c.head_at.result) (sym c.in-Susp.is)
+    subst (λ (u : Term). IsAtHead bs (under bs (act_term b.swaps.items (rename_term b.base (term_of u)))) c.head_at.result) (sym c.in-Susp.is)
     (head_same bs (under bs (susp p x)) (under bs (susp [] x)) c.head_at.result (suspension_alike s p x).1 c.head_at.ensures)
