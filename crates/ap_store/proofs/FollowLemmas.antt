@@ -1,10 +1,10 @@
 -- Variables that are followed to the closures to which they are bound.
 use Rattle.std.proofs.Common.{◌≡◌, ◌<◌, ◌≤◌, ◌+◌, ◌||◌, ℕ, Bool, true, false, List, ◌++◌, map, refl, sym, ap, ◌∙◌, subst, arith}
-use Rattle.std.specs.Prelude.{Option, Some, None, is_some}
+use Rattle.std.specs.Prelude.{Some, None, is_some}
 use Rattle.ap_defs.specs.Freshness.{var_eq}
 use Rattle.ap_defs.specs.Renaming.{AreSwapsBelow, IsBelow, rename_swap, rename_term, rename_var}
-use Rattle.ap_defs.specs.Substitution.{Binding, moved, occurs, under}
-use Rattle.ap_defs.specs.Terms.{NominalTerm, unit, name, pair, app, abs, act_term, susp, term_of}
+use Rattle.ap_defs.specs.Substitution.{moved, occurs, under}
+use Rattle.ap_defs.specs.Terms.{NominalTerm, pair, act_term, susp, term_of}
 use Rattle.ap_defs.specs.declared.terms.Swap.{Swap}
 use Rattle.ap_defs.specs.declared.terms.Term.{Term}
 use Rattle.ap_defs.specs.declared.terms.Term.TheVariants as code
@@ -15,13 +15,10 @@ use Rattle.ap_perm.specs.declared.closures.Closure.{Closure}
 use Rattle.ap_perm.specs.declared.closures.Lent.{Lent}
 use Rattle.ap_perm.proofs.LookupLemmas.{depth_act, depth_ranked}
 use Rattle.ap_perm.proofs.VisitLemmas.{visits, visits_bound, visits_left, visits_pair, visits_right}
-use Rattle.ap_theory.proofs.HeadKeyLemmas.{key_act}
 use Rattle.ap_theory.proofs.IdempotenceLemmas.{bound_term_unbound}
 use Rattle.ap_theory.proofs.SubstitutionLemmas.{under_act}
 use Rattle.ap_theory.proofs.TermLemmas.{act_term-append, occurs_act}
-use Rattle.ap_defs.specs.HeadKeys.{head_key}
 use Rattle.ap_theory.specs.Variables.{IsUnbound}
-use Rattle.ap_store.specs.Heads.{HasForm, IsHeadOf, IsHeadUnbound, IsHeadVar}
 use Rattle.ap_store.specs.Views.{bindings_of, meaning_in, present, rank, raw_bound}
 use Rattle.ap_store.specs.declared.store.Store.{Store}
 use Rattle.ap_store.proofs.BelowLemmas.{act_below}
@@ -117,48 +114,10 @@ module _ (s : Store) where
       subst (λ (t : NominalTerm). (under (bindings_of s) t ≡ meaning_in s c) × (IsBelow (present s).next (closure_term c) → IsBelow (present s).next t) × (depth_of (rank s) t < depth_of (rank s) (closure_term c)))
       (sym k) (step_found c d all q x e refl h)
 
-  -- swappings that wait change no key
-  moved_key : (p : List Swap) (t : NominalTerm) → head_key (under (bindings_of s) (act_term p t)) ≡ head_key (under (bindings_of s) t)
-  moved_key p t = ap head_key (under_act (bindings_of s) p t) ∙ key_act p (under (bindings_of s) t)
-
-  pub closure_key : (d : Closure) → head_key (meaning_in s d) ≡ head_key (under (bindings_of s) (bare d))
-  closure_key d = moved_key d.swaps.items (bare d)
-
-  -- what a variable is bound to begins as what the variable stands for, whatever swappings wait
-  pub head_bound : (q : List Swap) (x : Var) (p : List Swap) (t : NominalTerm) → raw_bound s x ≡ Some (act_term p t) → IsHeadOf (present s) (rank s) (susp q x) t
-  head_bound q x p t e =
-      let bs = (bindings_of s) in
-      let l : depth_of (rank s) (act_term p t) ≤ rank s x = depth_ranked (raw_bound s) (rank s) (store_ranked s) x (act_term p t) e in
-      let m : depth_of (rank s) (act_term p t) ≡ depth_of (rank s) t = depth_act (rank s) p t in (
-        ap head_key ((store_sound s).follows q x (act_term p t) e) ∙ key_act q (under bs (act_term p t)) ∙ moved_key p t,
-        omega (arith, l, m),
-      )
-
   -- a term below bindings, but for swappings
   pub bound_look : (q : List Swap) (x : Var) (p : List Swap) (t : NominalTerm) → raw_bound s x ≡ Some (act_term p t)
-      → ((r : List Swap) × (under (bindings_of s) (susp q x) ≡ act_term r (under (bindings_of s) t))) × (depth_of (rank s) t < depth_of (rank s) (susp q x))
+      → (under (bindings_of s) (susp q x) ≡ act_term (q ++ p) (under (bindings_of s) t)) × (depth_of (rank s) t < depth_of (rank s) (susp q x))
   bound_look q x p t e =
-      let (_, less) = head_bound q x p t e in ((q ++ p, bound_under q x p t e ∙ under_act (bindings_of s) (q ++ p) t), less)
-
-  -- a head that is no bound variable stays
-  pub unbound_key : (t : NominalTerm) → IsHeadUnbound (bindings_of s) t → head_key (under (bindings_of s) t) ≡ head_key t
-  unbound_key unit h = refl
-  unbound_key (name a) h = refl
-  unbound_key (pair t u) h = refl
-  unbound_key (app f t) h = refl
-  unbound_key (abs a t) h = refl
-  unbound_key (susp q x) h = ap (λ u. head_key (moved q x u)) (bound_term_unbound (bindings_of s) x h)
-
--- a term that is no suspension is none under swappings
-pub form_act : (p : List Swap) (t : NominalTerm) → HasForm t → HasForm (act_term p t)
-form_act p unit h = tt
-form_act p (name a) h = tt
-form_act p (pair t u) h = tt
-form_act p (app f t) h = tt
-form_act p (abs a t) h = tt
-form_act p (susp q x) h = absurd h
-
--- and swappings change no variable at a head
-pub head_var_act : (bs : List Binding) (p : List Swap) (t u : NominalTerm) (o : Option Var) → u ≡ act_term p t → IsHeadVar bs t o → IsHeadVar bs u o
-head_var_act bs p t u None e h = subst HasForm (sym e) (form_act p t h)
-head_var_act bs p t u (Some x) e h = let (l, m) = h in let (q, k) = m in (l, (p ++ q, e ∙ ap (act_term p) k))
+      let l : depth_of (rank s) (act_term p t) ≤ rank s x = depth_ranked (raw_bound s) (rank s) (store_ranked s) x (act_term p t) e in
+      let m : depth_of (rank s) (act_term p t) ≡ depth_of (rank s) t = depth_act (rank s) p t in
+      (bound_under q x p t e ∙ under_act (bindings_of s) (q ++ p) t, omega (arith, l, m))

@@ -11,6 +11,7 @@ pub mod HeldLemmas
 mod JoinedLemmas
 pub mod StoreLemmas
 pub mod FollowLemmas
+mod HeadLemmas
 pub mod ReachLemmas
 pub mod OccurrenceLemmas
 mod WaitingLemmas

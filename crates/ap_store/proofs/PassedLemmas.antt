@@ -1,18 +1,16 @@
 -- Variables that a look went through, and what is left of them among the parts that wait.
-use Rattle.std.proofs.Common.{◌≡◌, ◌<◌, ◌≤◌, ◌+◌, ◌⊎◌, ◌∙◌, ◌||◌, ℕ, zero, suc, Bool, true, false, true≢false, List, [], ◌∷◌, ◌++◌, inl, inr, map, set, replicate, refl, sym, ap, subst, arith}
-use Rattle.std.specs.Prelude.{Some}
+use Rattle.std.proofs.Common.{◌≡◌, ◌<◌, ◌≤◌, ◌+◌, ◌⊎◌, ◌∙◌, ◌||◌, ℕ, zero, suc, Bool, true, false, true≢false, List, [], ◌∷◌, ◌++◌, inl, inr, set, replicate, refl, sym, ap, subst, arith}
+use Rattle.std.specs.Prelude.{Some, None}
 use Rattle.std.proofs.lemmas.List.{append-nil}
 use Rattle.ap_defs.specs.Substitution.{Binding, bound_term, occurs, under}
-use Rattle.ap_defs.specs.Renaming.{IsBelow, rename_swap, rename_term, rename_var}
-use Rattle.ap_defs.specs.Terms.{NominalTerm, abs, act_term, app, pair, susp, term_of}
-use Rattle.ap_defs.specs.declared.terms.Name.{Name}
+use Rattle.ap_defs.specs.Freshness.{var_eq}
+use Rattle.ap_defs.specs.Terms.{NominalTerm, act_term, pair, susp}
 use Rattle.ap_defs.specs.declared.terms.Swap.{Swap}
-use Rattle.ap_defs.specs.declared.terms.Term.{Term}
-use Rattle.ap_defs.specs.declared.terms.Term.TheVariants as code
 use Rattle.ap_defs.specs.declared.terms.Var.{Var}
 use Rattle.ap_perm.proofs.VisitLemmas.{visits_abs, visits_act, visits_app}
-use Rattle.ap_theory.proofs.BooleanLemmas.{or_cases, or_if_right}
-use Rattle.ap_store.specs.Founds.{IsOnce, bare_term, occurs_in}
+use Rattle.ap_theory.proofs.BooleanLemmas.{false_if_not, or_cases, or_if_right}
+use Rattle.ap_theory.proofs.TermLemmas.{number_same}
+use Rattle.ap_store.specs.Founds.{IsInner, IsOnce, bare_term, occurs_in}
 use Rattle.ap_store.specs.Passed.{is_mark_at}
 use Rattle.ap_store.specs.Views.{bindings_of, rank, raw_bound}
 use Rattle.ap_store.specs.declared.bare.Bare.{Bare}
@@ -20,9 +18,9 @@ use Rattle.ap_store.specs.declared.occurrences.Once.TheVariants as onces
 use Rattle.ap_store.specs.declared.passed.Passed.{Passed}
 use Rattle.ap_store.specs.declared.store.Store.{Store}
 use Rattle.ap_store.proofs.BindLemmas.{occurs_moved}
-use Rattle.ap_store.proofs.FollowLemmas.{bound_less, bound_occurs, left_less, right_less, visits_in}
+use Rattle.ap_store.proofs.FollowLemmas.{bound_less, bound_occurs, left_less, right_less, unbound_occurs, visits_in}
 use Rattle.ap_store.proofs.StoreLemmas.{store_ranked}
-use Rattle.ap_store.proofs.WaitingLemmas.{ground_here, occurs_in_any, one_waits}
+use Rattle.ap_store.proofs.WaitingLemmas.{occurs_in_any, one_waits}
 
 -- Marks.
 pub marked_set : (ms : List Bool) (i j : ℕ) → is_mark_at (set ms i true) j ≡ true → (is_mark_at ms j ≡ true) ⊎ (j ≡ i)
@@ -69,12 +67,13 @@ abbrev pub IsSpent : Store → Var → NominalTerm → List Bare → Type 0
 IsSpent s x t bs = occurs x (under (bindings_of s) t) ≡ true → HasFewerAny s x (visits_in s t) bs
 
 -- what is under a constructor or a binder
-abbrev pub IsInner : NominalTerm → NominalTerm → Type 0
-IsInner t u = ((f : ℕ) × (t ≡ app f u)) ⊎ ((a : Name) × (t ≡ abs a u))
-
-pub inner_below : (n : ℕ) (t u : NominalTerm) → IsInner t u → IsBelow n t → IsBelow n u
-inner_below n t u (inl k) h = let l : IsBelow n (app k.0 u) = subst (IsBelow n) k.1 h in l
-inner_below n t u (inr k) h = let l : IsBelow n (abs k.0 u) = subst (IsBelow n) k.1 h in l.1
+pub inner_less : (s : Store) (t u : NominalTerm) → IsInner t u → visits_in s u < visits_in s t
+inner_less s t u (inl k) =
+    let nodes : visits_in s t ≡ 1 + visits_in s u = ap (visits_in s) k.1 ∙ visits_app (raw_bound s) (rank s) (store_ranked s) k.0 u in
+    omega (arith, nodes)
+inner_less s t u (inr k) =
+    let nodes : visits_in s t ≡ 1 + visits_in s u = ap (visits_in s) k.1 ∙ visits_abs (raw_bound s) (rank s) (store_ranked s) k.0 u in
+    omega (arith, nodes)
 
 pub inner_occurs : (bs : List Binding) (y : Var) (t u : NominalTerm) → IsInner t u → occurs y (under bs t) ≡ occurs y (under bs u)
 inner_occurs bs y t u (inl k) = ap (λ w. occurs y (under bs w)) k.1
@@ -117,12 +116,8 @@ module _ (s : Store) (x : Var) where
 
   -- what is under a constructor or a binder is in hand
   pub left_inner : (ms : List Bool) (t u : NominalTerm) (bs : List Bare) → IsInner t u → IsLeftOf s ms x t bs → IsLeftOf s ms x u bs
-  left_inner ms t u bs (inl k) h =
-      let nodes : visits_in s t ≡ 1 + visits_in s u = ap (visits_in s) k.1 ∙ visits_app (raw_bound s) (rank s) (store_ranked s) k.0 u in
-      left_smaller ms t u bs (omega (arith, nodes)) (ap (λ w. occurs x (under (bindings_of s) w)) k.1) h
-  left_inner ms t u bs (inr k) h =
-      let nodes : visits_in s t ≡ 1 + visits_in s u = ap (visits_in s) k.1 ∙ visits_abs (raw_bound s) (rank s) (store_ranked s) k.0 u in
-      left_smaller ms t u bs (omega (arith, nodes)) (ap (λ w. occurs x (under (bindings_of s) w)) k.1) h
+  left_inner ms t u bs k h =
+      let l = inner_less s t u k in left_smaller ms t u bs (omega (arith, l)) (inner_occurs (bindings_of s) x t u k) h
 
   -- the left part of a pair is in hand, and the right one waits
   pub left_pair : (ms : List Bool) (t u v : NominalTerm) (bs more : List Bare) (b : Bare) → v ≡ pair t u → bare_term b ≡ u → more ≡ bs ++ b ∷ [] → IsLeftOf s ms x v bs → IsLeftOf s ms x t more
@@ -192,9 +187,12 @@ module _ (s : Store) (x : Var) where
       not_both (occurs x (under (bindings_of s) t)) (occurs_in_any s x bs) (λ o. any_true (visits_in s t) bs (h o)) none in
       sym (ap (λ o. o || occurs_in_any s x bs) here ∙ none)
 
--- A variable of which there is nothing new, at the end of a part.
-pub nothing_here : (s : Store) (p : Passed) (n : ℕ) (t : Term) (q : List Swap) (z : Var) (x : Var) (bs : List Bare) → t ≡ code.Susp q z → IsOnce s (rename_var n z) p onces.Nothing
-    → IsLeftOf s p.marks.items x (rename_term n (term_of t)) bs → IsSpent s x (rename_term n (term_of t)) bs
-nothing_here s p n t q z x bs e (inl h) k = spent_apart s x (rename_term n (term_of t)) bs (ground_here s n t q z x e h)
-nothing_here s p n t q z x bs e (inr h) k =
-    spent_passed s x p.marks.items (map (rename_swap n) q) (rename_var n z) (rename_term n (term_of t)) bs (ap (λ (u : Term). rename_term n (term_of u)) e) h k
+-- A variable at the end of a part: of which there is nothing new, or another one that is unbound.
+pub nothing_here : (s : Store) (p : Passed) (t : NominalTerm) (q : List Swap) (z : Var) (x : Var) (bs : List Bare) → t ≡ susp q z → IsOnce s z p onces.Nothing → IsLeftOf s p.marks.items x t bs → IsSpent s x t bs
+nothing_here s p t q z x bs e (inl h) k =
+    spent_apart s x t bs (ap (λ w. occurs x (under (bindings_of s) w)) e ∙ occurs_moved x z q [] (bound_term (bindings_of s) z) ∙ h x)
+nothing_here s p t q z x bs e (inr h) k = spent_passed s x p.marks.items q z t bs e h k
+
+pub other_apart : (s : Store) (t : NominalTerm) (q : List Swap) (z : Var) (x : Var) → t ≡ susp q z → raw_bound s z ≡ None → (x.num ≡ z.num → ⊥) → occurs x (under (bindings_of s) t) ≡ false
+other_apart s t q z x e h k =
+    ap (λ w. occurs x (under (bindings_of s) w)) e ∙ unbound_occurs s x z q h ∙ false_if_not (var_eq x z) (λ i. k (number_same x.num z.num i))

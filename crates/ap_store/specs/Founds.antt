@@ -1,8 +1,9 @@
 -- What a look at a variable finds.
-use Rattle.std.specs.Prelude.{◌≡◌, ◌⊎◌, Bool, true, false, List, [], Option, Some, None}
+use Rattle.std.specs.Prelude.{◌≡◌, ◌⊎◌, ℕ, Bool, true, false, List, [], Option, Some, None}
 use Rattle.ap_defs.specs.Renaming.{rename_term}
-use Rattle.ap_defs.specs.Substitution.{occurs, under}
-use Rattle.ap_defs.specs.Terms.{NominalTerm, act_term, susp, term_of}
+use Rattle.ap_defs.specs.Substitution.{Binding, occurs, under}
+use Rattle.ap_defs.specs.Terms.{NominalTerm, abs, act_term, app, pair, susp, term_of}
+use Rattle.ap_defs.specs.declared.terms.Name.{Name}
 use Rattle.ap_defs.specs.declared.terms.Swap.{Swap}
 use Rattle.ap_defs.specs.declared.terms.Var.{Var}
 use Rattle.ap_store.specs.declared.bare.Bare.{Bare}
@@ -14,6 +15,8 @@ use Rattle.ap_store.specs.declared.occurrences.Once.{Once}
 use Rattle.ap_store.specs.declared.occurrences.Once.TheVariants as onces
 use Rattle.ap_store.specs.declared.passed.Passed.{Passed}
 use Rattle.ap_store.specs.declared.occurrences.Occurrence.TheVariants as occurrences
+use Rattle.ap_store.specs.declared.occurrences.Step.{Step}
+use Rattle.ap_store.specs.declared.occurrences.Step.TheVariants as steps
 use Rattle.ap_store.specs.declared.occurrences.Sight.{Sight}
 use Rattle.ap_store.specs.declared.occurrences.Sight.TheVariants as sights
 use Rattle.ap_store.specs.declared.slots.Found.{Found}
@@ -58,6 +61,17 @@ abbrev pub IsOnce : Store → Var → Passed → Once → Type 0
 IsOnce s x p onces.Unbound = raw_bound s x ≡ None
 IsOnce s x p onces.Nothing = HasNoVars (under (bindings_of s) (susp [] x)) ⊎ (is_mark_at p.marks.items x.num ≡ true)
 IsOnce s x p (onces.Below b) = (q : List Swap) × (raw_bound s x ≡ Some (act_term q (bare_term b)))
+
+-- the term is under a constructor or a binder, and all of it but for that
+abbrev pub IsInner : NominalTerm → NominalTerm → Type 0
+IsInner t u = ((f : ℕ) × (t ≡ app f u)) ⊎ ((a : Name) × (t ≡ abs a u))
+
+-- what a term begins with
+abbrev pub IsPartStep : NominalTerm → Step → Type 0
+IsPartStep t steps.Leaf = (bs : List Binding) → HasNoVars (under bs t)
+IsPartStep t (steps.Inner b) = IsInner t (bare_term b)
+IsPartStep t (steps.Both b d) = t ≡ pair (bare_term b) (bare_term d)
+IsPartStep t (steps.Variable x) = (q : List Swap) × (t ≡ susp q x)
 
 -- whether the variable occurs
 abbrev pub does_occur : Occurrence → Bool

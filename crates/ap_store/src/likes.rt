@@ -1,35 +1,52 @@
 //! What is kept beside bound variables: the number of another variable that stands for a term with the same
 //! variables. Of numbers behind the last place nothing is kept, so that a search which needs none has no places.
 
-ghost use Rattle.std.specs.Prelude.{◌≡◌, ℕ, ◌<◌, ◌==◌, false, Some, OnOk, length};
-ghost use Rattle.ap_store.specs.Likes.{like_in};
+ghost use Rattle.std.specs.Prelude.{◌≡◌, ℕ, ◌<◌, ◌==◌, List, false, OnOk, length};
+ghost use Rattle.ap_defs.specs.Substitution.{Binding};
+ghost use Rattle.ap_defs.specs.Terms.{NominalTerm};
+ghost use Rattle.ap_store.specs.Likes.{IsAlike, like_in};
 
 use ap_defs::memory::Memory;
+
+/// What is kept beside a bound variable: nothing, or the number of another one that stands for a term with the same
+/// variables, and maybe the same head.
+#[derive(Clone, Copy)]
+pub enum Like {
+    Nothing,
+    Vars(u32),
+    Head(u32),
+}
+
+/// Whether nothing is to be kept.
+fn is_nothing(like: Like) -> bool {
+    matches!(like, Like::Nothing)
+}
 
 /// Makes room for what is kept beside a number, where nothing is kept beside it or higher ones so far.
 #[cold]
 #[inline(never)]
-fn make_place(likes: &mut Vec<Option<u32>>, place: usize) -> Result<(), Memory>
+fn make_place(likes: &mut Vec<Like>, place: usize) -> Result<(), Memory>
     ensures likes { (i : ℕ) → like_in likes.new.items i ≡ like_in likes.old.items i }
     ensures place { OnOk result (place < length likes.new.items) }
 {
     'adding: while likes.len() <= place {
-        likes.push(None)?;
+        likes.push(Like::Nothing)?;
     }
     Ok(())
 }
 
-/// Keeps another number beside one, or none. Where memory is wanting, none is kept.
-pub fn keep_like(likes: &mut Vec<Option<u32>>, place: usize, like: Option<u32>)
+/// Keeps another number beside one, or nothing. Where memory is wanting, nothing is kept.
+pub fn keep_like(likes: &mut Vec<Like>, place: usize, like: Like)
     ensures others { (i : ℕ) → (i == place) ≡ false →
         like_in likes.new.items i ≡ like_in likes.old.items i }
-    ensures here { (w : ℕ) → like_in likes.new.items place ≡ Some w → like ≡ Some w }
+    ensures here { (bs : List Binding) (t : NominalTerm) → IsAlike like bs t →
+        IsAlike (like_in likes.new.items place) bs t }
 {
     if place < likes.len() {
         likes[place] = like;
         return;
     }
-    if like.is_none() {
+    if is_nothing(like) {
         return;
     }
     if make_place(likes, place).is_ok() {
@@ -38,12 +55,12 @@ pub fn keep_like(likes: &mut Vec<Option<u32>>, place: usize, like: Option<u32>)
 }
 
 /// What is kept beside a number. It takes no memory.
-pub fn like_of(likes: &[Option<u32>], place: u64) -> Option<u32>
+pub fn like_of(likes: &[Like], place: u64) -> Like
     ensures { result ≡ like_in likes.now place }
 {
     if place < likes.len() as u64 {
         likes[place as usize]
     } else {
-        None
+        Like::Nothing
     }
 }

@@ -1,16 +1,17 @@
 //! Occurrences of variables.
 
-ghost use Rattle.std.specs.Prelude.{◌≡◌, ◌==◌, ◌↔◌, ◌⊎◌, ℕ, [], true, Some, if◌then◌else◌, IfOk, IsTrue};
-ghost use Rattle.ap_defs.specs.Substitution.{occurs, under};
-ghost use Rattle.ap_defs.specs.Terms.{susp, term_of, unit};
+ghost use Rattle.std.specs.Prelude.{◌≡◌, ◌==◌, ◌↔◌, ◌⊎◌, ℕ, List, [], true, Some, if◌then◌else◌, IfOk, IsTrue};
+ghost use Rattle.ap_defs.specs.Substitution.{Binding, occurs, under};
+ghost use Rattle.ap_defs.specs.Terms.{NominalTerm, susp, term_of, unit};
 ghost use Rattle.ap_defs.specs.declared.terms.Var.{Var as variable};
-ghost use Rattle.ap_store.specs.Founds.{IsOnce, IsSight, bare_term, does_occur, occurs_in};
-ghost use Rattle.ap_store.specs.Likes.{HaveSameVars};
+ghost use Rattle.ap_store.specs.Founds.{IsOnce, IsSight, IsPartStep, bare_term, does_occur, occurs_in};
+ghost use Rattle.ap_store.specs.Likes.{HaveSameVars, IsAlike};
 ghost use Rattle.ap_store.specs.Marks.{HasNoVars, IsConstant};
 ghost use Rattle.ap_store.specs.Slots.{var_at};
 ghost use Rattle.ap_store.specs.Views.{bindings_of, meaning_in};
 
 use crate::bare::Bare;
+use crate::likes::Like;
 use crate::narrow::{Narrowed, narrow_down};
 use crate::passed::{Passed, is_passed, pass};
 use crate::slots::Found;
@@ -45,19 +46,32 @@ impl Occurrence {
         matches!(self, Occurrence::Ground)
     }
 
-    /// The number of the variable whose variables stand there, if it is known.
-    pub(crate) fn like(self) -> Option<u32>
-        ensures { (w : ℕ) → result ≡ Some w → self ≡ Occurrence.Like (var_at w) }
+    /// What is kept beside a variable that is bound to such a term.
+    pub(crate) fn like(self) -> Like
+        ensures { (bs : List Binding) (t : NominalTerm) →
+            ((w : variable) → self ≡ Occurrence.Like w →
+            HaveSameVars (under bs t) (under bs (susp [] w))) → IsAlike result bs t }
     {
         match self {
-            Occurrence::Like(w) => num_of(w),
-            _ => None,
+            Occurrence::Like(w) => like_by_vars(w),
+            _ => Like::Nothing,
         }
     }
 }
 
+/// What is kept beside a variable that is bound to a term with the variables of another one.
+fn like_by_vars(w: Var) -> Like
+    ensures { (bs : List Binding) (t : NominalTerm) →
+        HaveSameVars (under bs t) (under bs (susp [] w)) → IsAlike result bs t }
+{
+    match num_of(w) {
+        None => Like::Nothing,
+        Some(num) => Like::Vars(num),
+    }
+}
+
 /// The number of a variable, if it is so small as each is.
-fn num_of(x: Var) -> Option<u32>
+pub(crate) fn num_of(x: Var) -> Option<u32>
     ensures { (n : ℕ) → result ≡ Some n → x ≡ var_at n }
 {
     if x.num <= u32::MAX as u64 {
@@ -125,11 +139,34 @@ fn without(is_open: bool) -> Occurrence
     }
 }
 
-/// The number that those in a term are below.
-fn end_of(b: Bare<'_>) -> u64
-    ensures { result ≡ b.entry.end }
+/// What a part begins with, for a look at its variables: it has none; all of it stands in another part; all of it
+/// stands in two parts; or it is a suspension of a variable.
+#[derive(Clone, Copy)]
+pub enum Step<'a> {
+    Leaf,
+    Inner(Bare<'a>),
+    Both(Bare<'a>, Bare<'a>),
+    Variable(Var),
+}
+
+/// What a part begins with. It takes no memory.
+fn step_of<'a>(b: Bare<'a>) -> Step<'a>
+    ensures { IsPartStep (bare_term b.entry) result }
 {
-    b.end
+    let _end = b.end;
+    match b.term {
+        Term::Unit => Step::Leaf,
+        Term::Name(_) => Step::Leaf,
+        Term::Pair(left, right) => Step::Both(b.with_term(left), b.with_term(right)),
+        Term::App(_, inner) => Step::Inner(b.with_term(inner)),
+        Term::Abs(_, _, inner) => Step::Inner(b.with_term(inner)),
+        Term::Susp(_, x) => {
+            let x = Var {
+                num: b.base + x.num,
+            };
+            Step::Variable(x)
+        }
+    }
 }
 
 /// Whether the variable occurs in what a part stands for. The right parts of pairs wait on a stack while the left
@@ -149,60 +186,39 @@ fn occurs_below<'a>(
 {
     let mut is_open = false;
     let mut waiting = Vec::new(alloc);
-    let mut passed = Passed {
-        marks: Vec::new(alloc),
-        count: 0,
-    };
-    let mut base = first.base;
-    let mut end = first.end;
-    let mut rest = first.term;
+    let mut passed = Passed::new(alloc);
+    let mut here = first;
     'seeking: loop {
-        match rest {
-            Term::Unit => {}
-            Term::Name(_) => {}
-            Term::Pair(left, right) => {
-                waiting.push(Bare {
-                    base,
-                    end,
-                    term: right,
-                })?;
-                rest = left;
+        match step_of(here) {
+            Step::Leaf => {}
+            Step::Inner(inner) => {
+                here = inner;
                 continue;
             }
-            Term::App(_, inner) => {
-                rest = inner;
+            Step::Both(left, right) => {
+                waiting.push(right)?;
+                here = left;
                 continue;
             }
-            Term::Abs(_, _, inner) => {
-                rest = inner;
-                continue;
-            }
-            Term::Susp(_, y) => {
-                let y = Var { num: base + y.num };
-                match seen_once(store, &passed, y) {
-                    Once::Below(b) => {
-                        pass(alloc, &mut passed, store.next(), y)?;
-                        base = b.base;
-                        end = end_of(b);
-                        rest = b.term;
-                        continue;
-                    }
-                    Once::Nothing => {}
-                    Once::Unbound => {
-                        if x.num == y.num {
-                            return Ok(Occurrence::Occurs);
-                        }
-                        is_open = true;
-                    }
+            Step::Variable(y) => match seen_once(store, &passed, y) {
+                Once::Below(b) => {
+                    pass(alloc, &mut passed, store.next(), y)?;
+                    here = b;
+                    continue;
                 }
-            }
+                Once::Nothing => {}
+                Once::Unbound => {
+                    if x.num == y.num {
+                        return Ok(Occurrence::Occurs);
+                    }
+                    is_open = true;
+                }
+            },
         }
         let Some(next) = waiting.pop() else {
             return Ok(without(is_open));
         };
-        base = next.base;
-        end = end_of(next);
-        rest = next.term;
+        here = next;
     }
 }
 
@@ -262,17 +278,18 @@ fn occurs_in_part<'a>(
 
 /// Whether a term is the one without parts.
 fn is_unit(t: &Term) -> bool
-    ensures { result ≡ true → term_of t.now ≡ unit }
+    ensures { IsTrue result ↔ (term_of t.now ≡ unit) }
 {
     matches!(t, Term::Unit)
 }
 
 /// Whether a term has no variables because it is a name, a constant, or the one without parts. It takes no memory.
 fn is_constant(t: &Term) -> bool
-    ensures { result ≡ true → IsConstant (term_of t.now) }
+    ensures { IsTrue result ↔ IsConstant (term_of t.now) }
 {
     match t {
-        Term::Unit | Term::Name(_) => true,
+        Term::Unit => true,
+        Term::Name(_) => true,
         Term::App(_, argument) => is_unit(argument),
         Term::Pair(_, _) | Term::Abs(_, _, _) | Term::Susp(_, _) => false,
     }

@@ -20,6 +20,20 @@ pub struct Passed {
     pub count: usize,
 }
 
+impl Passed {
+    ghost use Rattle.std.specs.Prelude.{◌≡◌, []};
+
+    /// Nothing was gone through. It takes no memory.
+    pub fn new(alloc: Global) -> Passed
+        ensures { result.marks.items ≡ [] }
+    {
+        Passed {
+            marks: Vec::new(alloc),
+            count: 0,
+        }
+    }
+}
+
 /// Whether a variable is marked.
 pub fn is_passed(passed: &Passed, x: Var) -> bool
     ensures { result ≡ is_mark_at passed.now.marks.items x.num }

@@ -10,8 +10,9 @@ ghost use Rattle.ap_store.specs.Trails.{no_rank, nothing_bound, rank_after, raw_
 mod reading;
 
 use crate::changes::{Entry, Noted};
+use crate::heads::kept_behind;
 use crate::held::{held_of, hold, let_go, put_back, take_out};
-use crate::likes::keep_like;
+use crate::likes::{Like, keep_like};
 use crate::occurrences::Occurrence;
 use crate::slots::{Slot, Value, plain_value, value_of};
 use crate::tables::{add_slots, put_value};
@@ -35,14 +36,14 @@ pub struct Mark {
 /// earlier triples, and the list of kinds. There each binding is carried out in the others; what is
 /// kept of it is the closure alone, in the table. All that is bound is below `reach`. What is marked stood for a
 /// term without variables when it was bound, and so does since. The variable in `likes` beside a bound one stood
-/// for a term with the same variables when that was bound, and so does since.
+/// for a term with the same variables, and maybe the same head, when that was bound, and so does since.
 #[derive(Drop)]
 pub struct Store<'a> {
     table: Vec<Slot<'a>>,
     held: Vec<Vec<Cond>>,
     trail: Vec<Entry>,
     noted: Vec<Noted>,
-    likes: Vec<Option<u32>>,
+    likes: Vec<Like>,
     reach: u64,
     pub ghost stored: { IsStored table.items trail.items noted.items reach } by { stored_prop table.items trail.items noted.items reach },
     pub ghost holds: { AreHeld held.items (changes_in table.items trail.items noted.items) } by { held_prop held.items (changes_in table.items trail.items noted.items) },
@@ -57,7 +58,7 @@ pub struct Store<'a> {
 }
 
 impl<'a> Store<'a> {
-    ghost use Rattle.std.specs.Prelude.{◌≡◌, ℕ, ◌+◌, ◌≤◌, ◌<◌, ◌++◌, ◌∷◌, [], false, true, Some, IfOk, OnOk, OnErr, filter, length, take, vec_len, vec_capacity};
+    ghost use Rattle.std.specs.Prelude.{◌≡◌, ◌+◌, ◌≤◌, ◌<◌, ◌++◌, ◌∷◌, [], false, true, Some, IfOk, OnOk, OnErr, filter, length, take, vec_len, vec_capacity};
     ghost use Rattle.ap_defs.specs.Renaming.{IsBelow, rename_term};
     ghost use Rattle.ap_defs.specs.Resolution.{kinds_of};
     ghost use Rattle.ap_defs.specs.Substitution.{occurs, under};
@@ -67,9 +68,9 @@ impl<'a> Store<'a> {
     ghost use Rattle.ap_perm.specs.Closures.{closure_term};
     ghost use Rattle.ap_theory.specs.Variables.{IsUnbound};
     ghost use Rattle.ap_store.specs.Changes.{has_on, replace_conditions, with_bound};
-    ghost use Rattle.ap_store.specs.Likes.{HaveSameVars};
+    ghost use Rattle.ap_store.specs.Likes.{HaveSameVars, IsAlike};
     ghost use Rattle.ap_store.specs.Marks.{HasNoVars, is_ground_value};
-    ghost use Rattle.ap_store.specs.Slots.{IsKeptBelow, value_term, kept_term, var_at};
+    ghost use Rattle.ap_store.specs.Slots.{IsKeptBelow, value_term, kept_term};
     ghost use Rattle.ap_store.specs.Triples.{AreOnUnbound, IsPrefixOf, is_apart, is_on, with_binding, with_conditions, with_next};
     ghost use Rattle.ap_store.specs.Views.{IsUnchanged, bindings_of, kinds, meaning_in, past, present, versions};
 
@@ -138,9 +139,10 @@ impl<'a> Store<'a> {
         ensures unchanged { OnErr result (IsUnchanged self.old self.new) }
     {
         let end = c.end;
+        let like = kept_behind(self, &c);
         let value = value_of(alloc, c, is_ground)?;
         let taken = self.take_conditions(alloc, x)?;
-        self.note_binding(x, value, end, None);
+        self.note_binding(x, value, end, like);
         Ok(taken)
     }
 
@@ -291,10 +293,10 @@ impl<'a> Store<'a> {
         Ok(())
     }
 
-    /// Notes what a variable is bound to; the variables in it are below `end`, and the same as those in what
-    /// another one stands for, if one is given.
+    /// Notes what a variable is bound to; the variables in it are below `end`, and what is to be kept beside the
+    /// variable holds of it.
     #[inline(always)]
-    fn note_binding(&mut self, x: Var, value: Value<'a>, end: u64, like: Option<u32>)
+    fn note_binding(&mut self, x: Var, value: Value<'a>, end: u64, like: Like)
         requires room { vec_len self.old.trail < vec_capacity self.old.trail }
         requires made { x.num < (present self.old).next }
         requires unbound { IsUnbound (bindings_of self.old) x }
@@ -304,9 +306,7 @@ impl<'a> Store<'a> {
         requires absent { occurs x (under (bindings_of self.old) (kept_term value)) ≡ false }
         requires mark { is_ground_value value ≡ true →
             HasNoVars (under (bindings_of self.old) (kept_term value)) }
-        requires like { (w : ℕ) → like ≡ Some w → HaveSameVars
-            (under (bindings_of self.old) (kept_term value))
-            (under (bindings_of self.old) (susp [] (var_at w))) }
+        requires like { IsAlike like (bindings_of self.old) (kept_term value) }
         requires apart { has_on x (present self.old).conditions ≡ false }
         ensures present { present self.new
             ≡ with_bound x (under (bindings_of self.old) (kept_term value.entry)) (present self.old) }

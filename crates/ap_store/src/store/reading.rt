@@ -3,7 +3,7 @@
 use super::Store;
 use crate::bare::Bare;
 use crate::held::{held_of, set_of};
-use crate::likes::like_of;
+use crate::likes::{Like, like_of};
 use crate::slots::Found;
 use crate::tables::{bound_at, found_at};
 use ap_defs::goals::Kind;
@@ -20,7 +20,7 @@ impl<'a> Store<'a> {
     ghost use Rattle.ap_perm.specs.Closures.{lent_term};
     ghost use Rattle.ap_store.specs.Changes.{has_on};
     ghost use Rattle.ap_store.specs.Founds.{IsBareOf, IsWhatIsFound, is_ground_found};
-    ghost use Rattle.ap_store.specs.Likes.{HaveSameVars};
+    ghost use Rattle.ap_store.specs.Likes.{AreAlike, HaveSameVars};
     ghost use Rattle.ap_store.specs.Marks.{HasNoVars};
     ghost use Rattle.ap_defs.specs.declared.terms.Var.{Var as variable};
     ghost use Rattle.ap_store.specs.Views.{bindings_of, kinds, meaning_in, present, raw_bound};
@@ -63,8 +63,23 @@ impl<'a> Store<'a> {
             (under (bindings_of self.now) (susp [] w)) }
     {
         match like_of(&self.likes, x.num) {
-            None => None,
-            Some(num) => Some(Var { num: num as u64 }),
+            Like::Nothing => None,
+            Like::Vars(num) => Some(Var { num: num as u64 }),
+            Like::Head(num) => Some(Var { num: num as u64 }),
+        }
+    }
+
+    /// Another variable, if one is kept beside a bound one that stands for a term that begins alike. It takes no
+    /// memory.
+    pub(crate) fn alike(&self, x: Var) -> Option<Var>
+        ensures { (w : variable) → result ≡ Some w → is_some (raw_bound self.now x) ≡ true →
+            AreAlike (under (bindings_of self.now) (susp [] x))
+            (under (bindings_of self.now) (susp [] w)) }
+    {
+        match like_of(&self.likes, x.num) {
+            Like::Nothing => None,
+            Like::Vars(_) => None,
+            Like::Head(num) => Some(Var { num: num as u64 }),
         }
     }
 

@@ -1,12 +1,8 @@
 -- A variable occurs in the whole where it occurs in the part in hand or in one that waits; once an unbound one was seen, this is kept of the
 -- variable that is sought alone. Where it occurs in what a variable stands for that was gone through, it occurs in a part that is left.
-use Rattle.std.proofs.Common.{◌≡◌, ◌<◌, ◌+◌, ◌^◌, ◌||◌, true}
-use Rattle.ap_defs.specs.Renaming.{IsBelow, rename_term}
-use Rattle.ap_defs.specs.Substitution.{occurs, under}
-use Rattle.ap_defs.specs.Terms.{term_of}
+use Rattle.std.proofs.Common.{◌≡◌, ◌+◌, ◌||◌, true}
 use Rattle.ap_defs.specs.declared.terms.Var.{Var}
-use Rattle.ap_store.specs.Founds.{occurs_in}
-use Rattle.ap_store.specs.Views.{bindings_of}
+use Rattle.ap_store.specs.Founds.{bare_term, occurs_in}
 use Rattle.ap_store.proofs.FollowLemmas.{visits_in}
 use Rattle.ap_store.proofs.PassedLemmas.{IsLeftOf}
 use Rattle.ap_store.proofs.WaitingLemmas.{occurs_in_any, visits_in_all}
@@ -14,11 +10,9 @@ use Rattle.ap_store.proofs.occurrences.occurs_below.Given as goal
 
 abbrev pub invariant-seeking : goal.invariant-seeking
 invariant-seeking l = record {
-  all : (y : Var) → (l.is_open ≡ true → y ≡ l.x) → (occurs y (under (bindings_of l.store) (rename_term l.base (term_of l.rest))) || occurs_in_any l.store y l.waiting.items) ≡ occurs_in l.store y l.fn.first;
-  passed : (y : Var) → (l.is_open ≡ true → y ≡ l.x) → IsLeftOf l.store l.passed.marks.items y (rename_term l.base (term_of l.rest)) l.waiting.items;
-  fits : l.end < 2 ^ 64;
-  below : IsBelow l.end (rename_term l.base (term_of l.rest));
+  all : (y : Var) → (l.is_open ≡ true → y ≡ l.x) → (occurs_in l.store y l.here || occurs_in_any l.store y l.waiting.items) ≡ occurs_in l.store y l.fn.first;
+  passed : (y : Var) → (l.is_open ≡ true → y ≡ l.x) → IsLeftOf l.store l.passed.marks.items y (bare_term l.here) l.waiting.items;
 }
 
 abbrev pub decreases-seeking : goal.decreases-seeking
-decreases-seeking l = visits_in l.store (rename_term l.base (term_of l.rest)) + visits_in_all l.store l.waiting.items
+decreases-seeking l = visits_in l.store (bare_term l.here) + visits_in_all l.store l.waiting.items

@@ -5,6 +5,7 @@ use Rattle.ap_defs.specs.Substitution.{occurs, under}
 use Rattle.ap_defs.specs.Terms.{NominalTerm}
 use Rattle.ap_perm.specs.Closures.{closure_term}
 use Rattle.ap_store.specs.Changes.{has_on, with_bound}
+use Rattle.ap_store.specs.Likes.{IsAlike}
 use Rattle.ap_store.specs.Marks.{HasNoVars}
 use Rattle.ap_store.specs.Slots.{kept_term, term_or_unit}
 use Rattle.ap_store.specs.Triples.{Triple}
@@ -35,6 +36,12 @@ note_binding-requires-clause-mark c =
     let e : kept_term c.in_ok-value.value ≡ closure_term c.args.c = ap term_or_unit c.in_ok-value.ensures.term in
     λ h. subst (λ (a : Triple). HasNoVars (under a.bindings (kept_term c.in_ok-value.value))) (sym c.in_ok-taken.ensures.present)
     (subst (λ (t : NominalTerm). HasNoVars (under (bindings_of c.args.self.now) t)) (sym e) (c.requires.no_vars (c.in_ok-value.ensures.mark h)))
+
+pub note_binding-requires-clause-like : goal.note_binding-requires-clause-like
+note_binding-requires-clause-like c =
+    let e : kept_term c.in_ok-value.value ≡ closure_term c.args.c = ap term_or_unit c.in_ok-value.ensures.term in
+    subst (λ (a : Triple). IsAlike c.kept_behind-like.result a.bindings (kept_term c.in_ok-value.value)) (sym c.in_ok-taken.ensures.present)
+    (subst (IsAlike c.kept_behind-like.result (bindings_of c.args.self.now)) (sym e) c.kept_behind-like.ensures)
 
 pub returns-clause-present : goal.returns-clause-present
 returns-clause-present c =

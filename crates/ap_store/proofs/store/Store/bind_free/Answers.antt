@@ -2,11 +2,11 @@ use Rattle.std.proofs.Common.{◌≡◌, ◌<◌, ◌++◌, ◌∷◌, [], List,
 use Rattle.std.specs.Prelude.{Some}
 use Rattle.ap_defs.specs.Renaming.{IsBelow, rename_term}
 use Rattle.ap_defs.specs.Substitution.{occurs, under}
-use Rattle.ap_defs.specs.Terms.{NominalTerm, susp, term_of}
+use Rattle.ap_defs.specs.Terms.{NominalTerm, term_of}
 use Rattle.ap_store.specs.Changes.{has_on, with_bound}
-use Rattle.ap_store.specs.Likes.{HaveSameVars}
+use Rattle.ap_store.specs.Likes.{IsAlike}
 use Rattle.ap_store.specs.Marks.{HasNoVars}
-use Rattle.ap_store.specs.Slots.{kept_term, term_or_unit, var_at}
+use Rattle.ap_store.specs.Slots.{kept_term, term_or_unit}
 use Rattle.ap_store.specs.Triples.{Triple}
 use Rattle.ap_store.specs.Views.{bindings_of, present, versions}
 use Rattle.ap_store.proofs.StoreLemmas.{free_bound}
@@ -45,8 +45,8 @@ note_binding-requires-clause-mark c =
 pub note_binding-requires-clause-like : goal.note_binding-requires-clause-like
 note_binding-requires-clause-like c =
     let e : kept_term c.plain_value-value.result ≡ rename_term c.args.base (term_of c.args.term.now) = ap term_or_unit c.plain_value-value.ensures.term in
-    λ w h. subst (λ (a : Triple). HaveSameVars (under a.bindings (kept_term c.plain_value-value.result)) (under a.bindings (susp [] (var_at w)))) (sym c.make_room.ensures.present)
-    (subst (λ (t : NominalTerm). HaveSameVars (under (bindings_of c.args.self.now) t) (under (bindings_of c.args.self.now) (susp [] (var_at w)))) (sym e) (c.requires.like (var_at w) (c.like.ensures w h)))
+    subst (λ (a : Triple). IsAlike c.like.result a.bindings (kept_term c.plain_value-value.result)) (sym c.make_room.ensures.present)
+    (subst (IsAlike c.like.result (bindings_of c.args.self.now)) (sym e) (c.like.ensures (bindings_of c.args.self.now) (rename_term c.args.base (term_of c.args.term.now)) c.requires.like))
 
 pub note_binding-requires-clause-apart : goal.note_binding-requires-clause-apart
 note_binding-requires-clause-apart c = ap (λ (a : Triple). has_on c.args.x a.conditions) c.make_room.ensures.present ∙ c.requires.apart

@@ -9,12 +9,12 @@ use Rattle.ap_store.proofs.store.Store.occurs.Goals as goal
 pub returns-then-is_constant-clause-found : goal.returns-then-is_constant-clause-found
 returns-then-is_constant-clause-found c =
     let d = c.args.c.now in
-    sym (constant_no_vars (bindings_of c.args.self.now) d.swaps.items d.base (term_of d.term.now) (c.is_constant.ensures c.if-is_constant.true) c.args.x)
+    sym (constant_no_vars (bindings_of c.args.self.now) d.swaps.items d.base (term_of d.term.now) (c.is_constant.ensures.0 c.if-is_constant.true) c.args.x)
 
 pub returns-then-is_constant-clause-no_vars : goal.returns-then-is_constant-clause-no_vars
 returns-then-is_constant-clause-no_vars c = λ h.
     let d = c.args.c.now in
-    constant_no_vars (bindings_of c.args.self.now) d.swaps.items d.base (term_of d.term.now) (c.is_constant.ensures c.if-is_constant.true)
+    constant_no_vars (bindings_of c.args.self.now) d.swaps.items d.base (term_of d.term.now) (c.is_constant.ensures.0 c.if-is_constant.true)
 
 pub returns-then-is_constant-clause-like : goal.returns-then-is_constant-clause-like
 returns-then-is_constant-clause-like c = λ w h. absurd (ground_not_like w h)
