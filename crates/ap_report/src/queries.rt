@@ -15,7 +15,7 @@ use ap_defs::memory::Memory;
 use ap_index::index::Index;
 use ap_io::Gate;
 use ap_paths::Limit;
-use ap_stream::{Search, report_of_runs, stream_report};
+use ap_stream::{AtEnd, Search, report_of_runs, stream_report};
 use std::alloc::Global;
 use std::sync::Wait;
 use std::thread::Threads;
@@ -32,6 +32,7 @@ fn query_count(program: &Index<'_>) -> u32
 fn report_shortly(
     alloc: Global,
     limit: Limit,
+    at_end: AtEnd,
     taken: &Taken<'_>,
     problem: &Problem<'_>,
 ) -> Result<Option<Vec<u8>>, Memory>
@@ -51,6 +52,7 @@ fn report_shortly(
         problem.query,
         &outs,
     )?;
+    at_end.end(outs);
     Ok(Some(report))
 }
 
@@ -83,6 +85,7 @@ fn report_beside<R: Threads + Wait + Sync, G: Gate>(
     gate: &G,
     workers: Workers,
     limit: Limit,
+    at_end: AtEnd,
     taken: &Taken<'_>,
     problem: &Problem<'_>,
 ) -> Result<Vec<u8>, Memory>
@@ -93,7 +96,7 @@ fn report_beside<R: Threads + Wait + Sync, G: Gate>(
         (problem.now.query - 1)) }
 {
     if !gate.may_hold() {
-        if let Some(report) = report_shortly(alloc, limit, taken, problem)? {
+        if let Some(report) = report_shortly(alloc, limit, at_end, taken, problem)? {
             return Ok(report);
         }
     }
@@ -108,6 +111,7 @@ fn report_query<'a, R: Threads + Wait + Sync, G: Gate>(
     gate: &G,
     workers: Workers,
     limit: Limit,
+    at_end: AtEnd,
     taken: &Taken<'_>,
     problem: &Problem<'a>,
     room: &mut Option<Search<'a>>,
@@ -119,9 +123,9 @@ fn report_query<'a, R: Threads + Wait + Sync, G: Gate>(
         (problem.now.query - 1)) }
 {
     if workers.get() == 1 {
-        stream_report(alloc, limit, taken, problem, room)
+        stream_report(alloc, limit, at_end, taken, problem, room)
     } else {
-        report_beside(rt, alloc, gate, workers, limit, taken, problem)
+        report_beside(rt, alloc, gate, workers, limit, at_end, taken, problem)
     }
 }
 
@@ -134,6 +138,7 @@ pub(crate) fn report_program<R: Threads + Wait + Sync, G: Gate>(
     depth: Depth,
     workers: Workers,
     limit: Limit,
+    at_end: AtEnd,
     program: &Index<'_>,
 ) -> Result<Vec<u8>, Memory>
     ensures { IfOk result (λ v. v.items ≡ limited_report (program_of program.now) depth limit) }
@@ -148,7 +153,10 @@ pub(crate) fn report_program<R: Threads + Wait + Sync, G: Gate>(
             query: place + 1,
             depth: depth.get(),
         };
-        let report = report_query(rt, alloc, gate, workers, limit, &taken, &problem, &mut room)?;
+        let last = at_end.of_query(place + 1 == count);
+        let report = report_query(
+            rt, alloc, gate, workers, limit, last, &taken, &problem, &mut room,
+        )?;
         bytes.extend_from_slice(&report)?;
     }
     Ok(bytes)

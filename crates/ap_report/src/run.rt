@@ -28,12 +28,13 @@ fn report_restricted<R: Threads + Wait + Sync, G: Gate>(
     depth: Depth,
     workers: Workers,
     limit: Limit,
+    at_end: AtEnd,
     program: &Restricted,
 ) -> Result<Report, Memory>
     ensures { IfOk result (λ r. r ≡ run_report depth limit (program_of program.now)) }
 {
     let index = Index::of(alloc, program)?;
-    let bytes = report_program(rt, alloc, gate, depth, workers, limit, &index)?;
+    let bytes = report_program(rt, alloc, gate, depth, workers, limit, at_end, &index)?;
     Ok(Report {
         bytes: List::of(bytes),
         status: Status::Ok,
@@ -44,7 +45,7 @@ fn report_restricted<R: Threads + Wait + Sync, G: Gate>(
 /// answered, each up to the last answer that is wanted. So many workers search each query that few turns
 /// don't answer, or each query where the gate may hold them; two or more pass the gate before each path
 /// that they take up. What the report is does not depend on how many there are, nor on what becomes of the
-/// program at the end.
+/// program and of its last answer at the end.
 ///
 /// `Err` is want of memory.
 #[tactic(auto, using(crate::proofs::Texts::refused_report, crate::proofs::Texts::answered_report, crate::proofs::Texts::report_one))]
@@ -67,7 +68,9 @@ pub fn report_text<R: Threads + Wait + Sync, G: Gate>(
 {
     match program_of_text(alloc, text) {
         Ok(program) => {
-            let report = report_restricted(rt, alloc, gate, depth, workers, limit, &program);
+            let report = report_restricted(
+                rt, alloc, gate, depth, workers, limit, at_end, &program,
+            );
             at_end.end(program);
             report
         }

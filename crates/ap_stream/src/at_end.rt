@@ -13,6 +13,11 @@ pub enum AtEnd {
 }
 
 impl AtEnd {
+    /// What becomes of the last answer of a query. Others come behind it, unless the query is the last one.
+    pub fn of_query(self, is_last: bool) -> AtEnd {
+        if is_last { self } else { AtEnd::Dropped }
+    }
+
     /// Drops a value that is needed no longer, or leaves it.
     pub fn end<T: Drop>(self, value: T) {
         match self {

@@ -13,15 +13,26 @@ ghost use Rattle.ap_paths.specs.Runs.{outs_of_runs};
 ghost use Rattle.ap_stream.specs.Builders.{report_with};
 ghost use Rattle.ap_stream.specs.Coming.{IsSearching, outs_to_come};
 
+use crate::at_end::AtEnd;
 use crate::builder::ReportBuilder;
 use crate::search::Search;
 use ap_answers::words::Taken;
 use ap_backchain::problem::{Problem, query_of_problem};
 use ap_defs::goals::{Local, Program};
 use ap_defs::memory::Memory;
+use ap_defs::paths::Out;
 use ap_defs::terms::Term;
 use ap_paths::{Limit, Run};
 use std::alloc::Global;
+
+/// Lets an output go that is written. What becomes of the last one is told.
+fn let_go(at_end: AtEnd, search: &Search<'_>, out: Out) {
+    if search.is_over() {
+        at_end.end(out);
+    } else {
+        drop(out);
+    }
+}
 
 /// Adds the outputs that are to come to a report, each as it is found.
 fn push_outputs(
@@ -29,6 +40,7 @@ fn push_outputs(
     program: &Program<Term>,
     taken: &Taken<'_>,
     locals: &[Local],
+    at_end: AtEnd,
     search: &mut Search<'_>,
     builder: &mut ReportBuilder,
 ) -> Result<(), Memory>
@@ -44,15 +56,18 @@ fn push_outputs(
             return Ok(());
         };
         builder.push(alloc, program, taken, locals, &out)?;
+        let_go(at_end, search, out);
     }
 }
 
 /// The report on a query to a depth up to the last answer that is wanted, where the words of the text are
 /// known: each output is written as it is found, so that memory is that of the report and of one branch.
-/// The memory of an earlier search is used again, and then lent to the next one.
+/// The memory of an earlier search is used again, and then lent to the next one. What becomes of the last answer
+/// is told.
 pub fn stream_report<'a>(
     alloc: Global,
     limit: Limit,
+    at_end: AtEnd,
     taken: &Taken<'_>,
     problem: &Problem<'a>,
     room: &mut Option<Search<'a>>,
@@ -69,7 +84,15 @@ pub fn stream_report<'a>(
     let locals = query_of_problem(problem).locals.items();
     let mut search = Search::within(alloc, room.take(), problem, limit)?;
     let mut builder = ReportBuilder::new(alloc);
-    let pushed = push_outputs(alloc, program, taken, locals, &mut search, &mut builder);
+    let pushed = push_outputs(
+        alloc,
+        program,
+        taken,
+        locals,
+        at_end,
+        &mut search,
+        &mut builder,
+    );
     *room = search.lent();
     match pushed {
         Ok(()) => builder.finish(alloc, problem.query),

@@ -196,6 +196,13 @@ impl<'a> Search<'a> {
         }
     }
 
+    /// Whether it is known that nothing more is to come.
+    pub(crate) fn is_over(&self) -> bool
+        ensures { result ≡ true → outs_to_come self.now ≡ [] }
+    {
+        !is_wanting(self.wanted)
+    }
+
     /// The next output, in order. None says that there is no more.
     pub fn next(&mut self, alloc: Global) -> Result<Option<Out>, Memory>
         requires { IsSearching self.old }
