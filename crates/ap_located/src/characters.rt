@@ -243,19 +243,14 @@ fn stray_note(line: &str, stray: Stray) -> &'static str {
 
 fn say_stray(message: &mut Message, c: char, shown: &str) {
     match said_of(&NAMES, c) {
-        None => message.say(&[
-            Piece::Text("no token begins with the character `"),
-            Piece::Word(shown),
-            Piece::Text("` ("),
-            Piece::Code(c),
-            Piece::Text(")"),
-        ]),
-        Some(name) => message.say(&[
-            Piece::Text(name),
-            Piece::Text(" ("),
-            Piece::Code(c),
-            Piece::Text(") stands where no token begins with it"),
-        ]),
+        None => message.say(
+            "no token begins with the character `@` (@)",
+            &[Piece::Word(shown), Piece::Code(c)],
+        ),
+        Some(name) => message.say(
+            "@ (@) stands where no token begins with it",
+            &[Piece::Text(name), Piece::Code(c)],
+        ),
     }
 }
 
@@ -272,7 +267,7 @@ fn stray_message(alloc: Global, line: &str, start: usize, stray: Stray) -> Messa
         stray.c,
         line.get(stray.place..end).unwrap_or(""),
     );
-    message.note(&[Piece::Text(stray_note(line, stray))]);
+    message.note(stray_note(line, stray), &[]);
     message
 }
 
@@ -284,7 +279,7 @@ pub fn explain_character(alloc: Global, text: &[u8], line: u64) -> Message {
         return stray_message(alloc, front, whole.start, stray);
     }
     let mut message = Message::new(alloc, whole);
-    message.say(&[Piece::Text("no token begins here")]);
+    message.say("no token begins here", &[]);
     message
 }
 
@@ -293,11 +288,10 @@ pub fn explain_bytes(alloc: Global, text: &[u8]) -> Message {
     let start = valid_front(text).len();
     let end = start.saturating_add(1);
     let mut message = Message::new(alloc, Span { start, end });
-    message.say(&[
-        Piece::Text("the byte "),
-        Piece::Byte(text.get(start).copied().unwrap_or(0)),
-        Piece::Text(" begins no character of UTF-8"),
-    ]);
-    message.note(&[Piece::Text("save the text in the encoding UTF-8, comments too")]);
+    message.say(
+        "the byte @ begins no character of UTF-8",
+        &[Piece::Byte(text.get(start).copied().unwrap_or(0))],
+    );
+    message.note("save the text in the encoding UTF-8, comments too", &[]);
     message
 }

@@ -3,52 +3,42 @@ ghost use Rattle.std.specs.Prelude.{◌≡◌};
 
 use crate::nodes::{Form, node_at};
 use crate::reader::{Expect, Reader, Stop};
-use crate::signs::{Sign, sign_at, sign_of};
 use crate::slips::Wanted;
-use ap_lexer::{Token, TokenKind};
-
-/// Whether a term may begin with the token.
-fn begins_any_term(token: &Token<'_>) -> bool {
-    match token.kind {
-        TokenKind::Ident | TokenKind::Var => true,
-        TokenKind::Reserved => token.text == "swap",
-        TokenKind::Sign => matches!(sign_of(token), Sign::Open | Sign::OpenList),
-    }
-}
+use crate::symbols::{Symbol, symbol_of};
+use ap_lexer::Token;
 
 impl<'t, 'a> Reader<'t, 'a> {
-    /// Whether the `(` at a place begins a term of an equation or a freshness goal.
-    fn begins_term(&mut self, place: usize) -> Result<bool, Stop> {
-        match self.close_of(place)? {
-            Some(close) => {
-                let next = sign_at(self.tokens, close.saturating_add(1));
-                Ok(matches!(next, Sign::Equal | Sign::Fresh))
-            }
-            None => Ok(false),
+    /// Takes the first token of a goal that is one term, an equation or a freshness goal.
+    fn take_atom(&mut self, place: usize, token: &Token<'a>) -> Result<(), Stop> {
+        self.nodes.enter(Form::Atom, place)?;
+        self.take_term(place, token)
+    }
+
+    /// Takes the `(` that a goal begins with.
+    fn take_group(&mut self, place: usize, token: &Token<'a>) -> Result<(), Stop> {
+        if self.begins_term(place)? {
+            self.take_atom(place, token)
+        } else {
+            self.enter(Form::Group, place, Expect::Goal)
         }
     }
 
     pub(crate) fn take_goal(&mut self, place: usize, token: &Token<'a>) -> Result<(), Stop> {
-        if token.kind == TokenKind::Reserved && token.text == "new" {
-            return self.enter(Form::New, place, Expect::NewName);
+        match symbol_of(token) {
+            Symbol::New => self.enter(Form::New, place, Expect::NewName),
+            Symbol::Exists => self.enter(Form::Exists, place, Expect::ExistsName),
+            Symbol::Open => self.take_group(place, token),
+            Symbol::Word | Symbol::Variable | Symbol::Swap | Symbol::OpenList => {
+                self.take_atom(place, token)
+            }
+            _ => Err(self.stop(place, Wanted::Goal)),
         }
-        if token.kind == TokenKind::Reserved && token.text == "exists" {
-            return self.enter(Form::Exists, place, Expect::ExistsName);
-        }
-        if sign_of(token) == Sign::Open && !self.begins_term(place)? {
-            return self.enter(Form::Group, place, Expect::Goal);
-        }
-        if !begins_any_term(token) {
-            return Err(self.stop(place, Wanted::Goal));
-        }
-        self.nodes.enter(Form::Atom, place)?;
-        self.take_term(place, token)
     }
 
     /// Closes the abstractions that end before the token at a place.
     pub(crate) fn leave_abstractions(&mut self, place: usize) {
         for _ in 0..place {
-            if self.nodes.open_form() != Form::Abs {
+            if !matches!(self.nodes.open_form(), Form::Abs) {
                 return;
             }
             self.nodes.leave(place.saturating_sub(1));
@@ -61,7 +51,7 @@ impl<'t, 'a> Reader<'t, 'a> {
             Form::Atom | Form::Head => {
                 let open = self.nodes.open_place();
                 let part = node_at(self.nodes.all(), open.saturating_add(1)).form;
-                if part != Form::Word && part != Form::Apply {
+                if !matches!(part, Form::Word | Form::Apply) {
                     return Err(self.stop(place, Wanted::Relation));
                 }
                 self.nodes.leave(place.saturating_sub(1));
@@ -76,11 +66,10 @@ impl<'t, 'a> Reader<'t, 'a> {
     pub(crate) fn take_after(&mut self, place: usize, token: &Token<'a>) -> Result<(), Stop> {
         self.leave_abstractions(place);
         match self.nodes.open_form() {
-            Form::Apply | Form::Predicate => self.take_in_arguments(place, token),
-            Form::Tuple => self.take_in_arguments(place, token),
+            Form::Apply | Form::Predicate | Form::Tuple => self.take_in_arguments(place, token),
             Form::Swap => self.take_in_swap(place, token),
             Form::List => self.take_in_list(place, token),
-            Form::ListTail => self.take_close(place, token, Sign::CloseList),
+            Form::ListTail => self.take_close(place, token, Symbol::CloseList),
             Form::Atom => self.take_behind_atom(place, token),
             Form::Head => self.take_neck(place, token),
             Form::Domain => self.take_arrow(place, token),
@@ -90,9 +79,9 @@ impl<'t, 'a> Reader<'t, 'a> {
 
     /// Takes the token behind a goal that may be the left side of an equation or of a freshness goal.
     fn take_behind_atom(&mut self, place: usize, token: &Token<'a>) -> Result<(), Stop> {
-        let form = match sign_of(token) {
-            Sign::Equal => Form::Equal,
-            Sign::Fresh => Form::Fresh,
+        let form = match symbol_of(token) {
+            Symbol::Equal => Form::Equal,
+            Symbol::Fresh => Form::Fresh,
             _ => return self.take_after_goal(place, token),
         };
         self.nodes.change(form);
@@ -102,7 +91,7 @@ impl<'t, 'a> Reader<'t, 'a> {
 
     /// Takes the `:-` behind a head.
     fn take_neck(&mut self, place: usize, token: &Token<'a>) -> Result<(), Stop> {
-        if sign_of(token) != Sign::If {
+        if !matches!(symbol_of(token), Symbol::If) {
             return Err(self.stop(place, Wanted::Body));
         }
         self.expect = Expect::Goal;
@@ -111,7 +100,7 @@ impl<'t, 'a> Reader<'t, 'a> {
 
     /// Takes the `->` behind the types of a constructor's arguments.
     fn take_arrow(&mut self, place: usize, token: &Token<'a>) -> Result<(), Stop> {
-        if sign_of(token) != Sign::Arrow {
+        if !matches!(symbol_of(token), Symbol::Arrow) {
             return Err(self.stop(place, Wanted::Arrow));
         }
         self.nodes.leave(place.saturating_sub(1));
@@ -121,16 +110,19 @@ impl<'t, 'a> Reader<'t, 'a> {
 
     pub(crate) fn take_after_goal(&mut self, place: usize, token: &Token<'a>) -> Result<(), Stop> {
         self.leave_goal(place)?;
-        let sign = sign_of(token);
-        if sign == Sign::Semicolon {
-            self.nodes.choose();
+        match symbol_of(token) {
+            Symbol::Comma => {}
+            Symbol::Semicolon => self.nodes.choose(),
+            _ => return self.leave_goals(place, token),
         }
-        if matches!(sign, Sign::Comma | Sign::Semicolon) {
-            self.expect = Expect::Goal;
-            return Ok(());
-        }
+        self.expect = Expect::Goal;
+        Ok(())
+    }
+
+    /// Takes the `)` behind the last of some goals.
+    fn leave_goals(&mut self, place: usize, token: &Token<'a>) -> Result<(), Stop> {
         match self.nodes.open_form() {
-            Form::Group | Form::Exists | Form::New => self.take_close(place, token, Sign::Close),
+            Form::Group | Form::Exists | Form::New => self.take_close(place, token, Symbol::Close),
             _ => Err(self.stop(place, Wanted::NextGoal)),
         }
     }

@@ -8,8 +8,9 @@ use crate::nodes::{Form, Node, node_at};
 use crate::reader::read_item;
 use crate::slips::{Slip, Wanted};
 use crate::spots::Span;
+use crate::symbols::{Symbol, symbol_of};
 use ap_defs::memory::Memory;
-use ap_lexer::{Token, TokenKind};
+use ap_lexer::Token;
 use std::alloc::Global;
 
 /// What closes or goes on with an open node.
@@ -55,7 +56,8 @@ fn begins_item(tokens: &[Token<'_>], slip: Slip) -> bool {
         slip.wanted,
         Wanted::NextGoal | Wanted::Body | Wanted::Arrow | Wanted::End | Wanted::PredicateTypes
     );
-    let begins = token.kind == TokenKind::Ident || token.text == "?-" || token.text == "pred";
+    let symbol = symbol_of(token);
+    let begins = matches!(symbol, Symbol::Word | Symbol::Ask | Symbol::Predicate);
     let before = line_at(tokens, slip.token.saturating_sub(1));
     slip.token > 0 && ends && begins && token.line > before
 }
@@ -64,25 +66,21 @@ fn missing_end(alloc: Global, tokens: &[Token<'_>], slip: Slip) -> Message {
     let start = span_at(tokens, slip.token.saturating_sub(1)).end;
     let end = start.saturating_add(1);
     let mut message = Message::new(alloc, Span { start, end });
-    message.say(&[Piece::Text("a `.` is missing before the next item")]);
-    message.label(&[Piece::Text("the item ends here by a `.`")]);
+    message.say("a `.` is missing before the next item", &[]);
+    message.label("the item ends here by a `.`", &[]);
     let line = line_at(tokens, slip.token);
-    message.note(&[
-        Piece::Text("the next item begins in line "),
-        Piece::Number(line),
-    ]);
+    message.note("the next item begins in line @", &[Piece::Number(line)]);
     message
 }
 
 fn say_slip(message: &mut Message, tokens: &[Token<'_>], place: usize) {
     if place >= tokens.len() {
-        message.say(&[Piece::Text("the item can't end here")]);
+        message.say("the item can't end here", &[]);
     } else {
-        message.say(&[
-            Piece::Text("the item can't go on with `"),
-            Piece::Word(text_at(tokens, place)),
-            Piece::Text("`"),
-        ]);
+        message.say(
+            "the item can't go on with `@`",
+            &[Piece::Word(text_at(tokens, place))],
+        );
     }
 }
 
@@ -96,23 +94,23 @@ fn has_bracket(node: Node) -> bool {
 
 /// Where the bracket that is open begins.
 fn note_open(message: &mut Message, tokens: &[Token<'_>], node: Node) {
-    message.note(&[
-        Piece::Text("what `"),
-        Piece::Word(text_at(tokens, node.first)),
-        Piece::Text("` opens in line "),
-        Piece::Number(line_at(tokens, node.first)),
-        Piece::Text(" is not closed"),
-    ]);
+    message.note(
+        "what `@` opens in line @ is not closed",
+        &[
+            Piece::Word(text_at(tokens, node.first)),
+            Piece::Number(line_at(tokens, node.first)),
+        ],
+    );
 }
 
 fn slip_message(alloc: Global, tokens: &[Token<'_>], nodes: &[Node], slip: Slip) -> Message {
     let open = node_at(nodes, slip.open);
     let mut message = Message::new(alloc, span_at(tokens, slip.token));
     say_slip(&mut message, tokens, slip.token);
-    message.label(&[Piece::Text(wanted_text(slip.wanted, open.form))]);
+    message.label(wanted_text(slip.wanted, open.form), &[]);
     match habit(tokens, nodes, slip) {
-        Some(note) => message.note(&[Piece::Text(note)]),
-        None if slip.wanted == Wanted::Close && has_bracket(open) => {
+        Some(note) => message.note(note, &[]),
+        None if matches!(slip.wanted, Wanted::Close) && has_bracket(open) => {
             note_open(&mut message, tokens, open);
         }
         None => {}
@@ -122,7 +120,7 @@ fn slip_message(alloc: Global, tokens: &[Token<'_>], nodes: &[Node], slip: Slip)
 
 fn vague_message(alloc: Global, tokens: &[Token<'_>]) -> Message {
     let mut message = Message::new(alloc, span_at(tokens, 0));
-    message.say(&[Piece::Text("the item is not in the grammar")]);
+    message.say("the item is not in the grammar", &[]);
     message
 }
 

@@ -2,68 +2,41 @@
 ghost use Rattle.std.specs.Prelude.{◌≡◌};
 
 use crate::nodes::{Form, node_at};
-use crate::reader::{Expect, Known, Reader, Stop};
-use crate::signs::{Sign, sign_at, sign_of};
+use crate::reader::{Expect, Reader, Stop};
 use crate::slips::Wanted;
-use ap_lexer::{Token, TokenKind};
+use crate::symbols::{Symbol, symbol_at, symbol_of};
+use ap_lexer::Token;
 
 impl<'t, 'a> Reader<'t, 'a> {
     pub(crate) fn take_start(&mut self, place: usize, token: &Token<'a>) -> Result<(), Stop> {
-        if token.kind == TokenKind::Reserved && token.text == "pred" {
-            self.expect = Expect::PredicateWord;
-            return Ok(());
-        }
-        if sign_of(token) == Sign::Ask {
-            self.expect = Expect::Goal;
-            return Ok(());
-        }
-        if token.kind != TokenKind::Ident {
-            return Err(self.stop(place, Wanted::Item));
-        }
-        if sign_at(self.tokens, place.saturating_add(1)) == Sign::Colon {
-            return self.add(Form::Word, place, Expect::Known(Known::Colon));
-        }
-        self.nodes.enter(Form::Head, place)?;
-        self.take_term(place, token)
-    }
-
-    pub(crate) fn take_known(
-        &mut self,
-        place: usize,
-        token: &Token<'a>,
-        known: Known,
-    ) -> Result<(), Stop> {
-        match known {
-            Known::Lambda => self.expect = Expect::Term,
-            Known::Open => {
-                if sign_of(token) != Sign::Open {
-                    return Err(self.stop(place, Wanted::Open));
-                }
-                self.expect = Expect::Term;
-            }
-            Known::OpenGoals => {
-                if sign_of(token) != Sign::Open {
-                    return Err(self.stop(place, Wanted::Open));
-                }
-                self.expect = Expect::Goal;
-            }
-            Known::Colon => self.expect = Expect::DeclaredType,
+        match symbol_of(token) {
+            Symbol::Predicate => self.expect = Expect::PredicateWord,
+            Symbol::Ask => self.expect = Expect::Goal,
+            Symbol::Word => return self.take_first_word(place),
+            _ => return Err(self.stop(place, Wanted::Item)),
         }
         Ok(())
     }
 
-    pub(crate) fn take_new_name(&mut self, place: usize, token: &Token<'a>) -> Result<(), Stop> {
-        if token.kind != TokenKind::Ident {
-            return Err(self.stop(place, Wanted::Name));
+    /// Takes the word that a declaration or a clause begins with.
+    fn take_first_word(&mut self, place: usize) -> Result<(), Stop> {
+        if matches!(
+            symbol_at(self.tokens, place.saturating_add(1)),
+            Symbol::Colon
+        ) {
+            return self.add(Form::Word, place, Expect::Colon);
         }
-        self.add(Form::Binder, place, Expect::Known(Known::OpenGoals))
+        self.nodes.enter(Form::Head, place)?;
+        self.take_word(place)
     }
 
     pub(crate) fn take_exists_name(&mut self, place: usize, token: &Token<'a>) -> Result<(), Stop> {
-        if token.kind != TokenKind::Var || token.text == "_" {
-            return Err(self.stop(place, Wanted::Variable));
+        match symbol_of(token) {
+            Symbol::Variable if token.text != "_" => {
+                self.add(Form::Binder, place, Expect::OpenGoals)
+            }
+            _ => Err(self.stop(place, Wanted::Variable)),
         }
-        self.add(Form::Binder, place, Expect::Known(Known::OpenGoals))
     }
 
     pub(crate) fn take_predicate_word(
@@ -71,23 +44,13 @@ impl<'t, 'a> Reader<'t, 'a> {
         place: usize,
         token: &Token<'a>,
     ) -> Result<(), Stop> {
-        if token.kind != TokenKind::Ident {
-            return Err(self.stop(place, Wanted::Word));
+        match symbol_of(token) {
+            Symbol::Word => {
+                self.in_type = true;
+                self.enter(Form::Predicate, place, Expect::PredicateOpen)
+            }
+            _ => Err(self.stop(place, Wanted::Word)),
         }
-        self.in_type = true;
-        self.enter(Form::Predicate, place, Expect::PredicateOpen)
-    }
-
-    pub(crate) fn take_predicate_open(
-        &mut self,
-        place: usize,
-        token: &Token<'a>,
-    ) -> Result<(), Stop> {
-        if sign_of(token) != Sign::Open {
-            return Err(self.stop(place, Wanted::PredicateTypes));
-        }
-        self.expect = Expect::Term;
-        Ok(())
     }
 
     pub(crate) fn take_declared_type(
@@ -95,9 +58,7 @@ impl<'t, 'a> Reader<'t, 'a> {
         place: usize,
         token: &Token<'a>,
     ) -> Result<(), Stop> {
-        if token.kind == TokenKind::Reserved
-            && (token.text == "type" || token.text == "name_type")
-        {
+        if matches!(symbol_of(token), Symbol::Type | Symbol::NameType) {
             return self.add(Form::Word, place, Expect::End);
         }
         self.in_type = true;
@@ -105,41 +66,37 @@ impl<'t, 'a> Reader<'t, 'a> {
         self.take_term(place, token)
     }
 
-    pub(crate) fn take_result_word(&mut self, place: usize, token: &Token<'a>) -> Result<(), Stop> {
-        if token.kind != TokenKind::Ident {
-            return Err(self.stop(place, Wanted::ResultWord));
-        }
-        self.add(Form::Word, place, Expect::End)
-    }
-
     /// What is wanted where the item ends at a place, if it may not end there.
     pub(crate) fn ends(&mut self, place: usize) -> Result<(), Stop> {
-        match self.expect {
+        let wanted = match self.expect {
             Expect::End | Expect::PredicateOpen => return Ok(()),
-            Expect::After => {}
-            Expect::Start => return Err(self.stop(place, Wanted::Item)),
-            Expect::Goal => return Err(self.stop(place, Wanted::Goal)),
-            Expect::NewName => return Err(self.stop(place, Wanted::Name)),
-            Expect::ExistsName => return Err(self.stop(place, Wanted::Variable)),
-            Expect::PredicateWord => return Err(self.stop(place, Wanted::Word)),
-            Expect::ResultWord => return Err(self.stop(place, Wanted::ResultWord)),
-            Expect::DeclaredType => return Err(self.stop(place, Wanted::Type)),
-            Expect::Known(_) => return Err(self.stop(place, Wanted::Open)),
-            Expect::Term | Expect::TermOrClose => return Err(self.stop(place, self.wanted_term())),
-        }
+            Expect::After => return self.ends_behind(place),
+            Expect::Start => Wanted::Item,
+            Expect::Goal => Wanted::Goal,
+            Expect::NewName => Wanted::Name,
+            Expect::ExistsName => Wanted::Variable,
+            Expect::PredicateWord => Wanted::Word,
+            Expect::ResultWord => Wanted::ResultWord,
+            Expect::DeclaredType => Wanted::Type,
+            Expect::Term | Expect::TermOrClose => self.wanted_term(),
+            Expect::Lambda | Expect::Colon | Expect::Open | Expect::OpenGoals => Wanted::Open,
+        };
+        Err(self.stop(place, wanted))
+    }
+
+    /// What is wanted where the item ends at a place behind a term or a goal, if it may not end there.
+    fn ends_behind(&mut self, place: usize) -> Result<(), Stop> {
         self.leave_abstractions(place);
         self.leave_goal(place)?;
-        let open = self.nodes.open_place();
-        match self.nodes.open_form() {
-            Form::Item => Ok(()),
-            Form::Domain => {
-                if node_at(self.nodes.all(), open.saturating_add(1)).form == Form::Word {
-                    Ok(())
-                } else {
-                    Err(self.stop(place, Wanted::Arrow))
-                }
+        let first = self.nodes.open_place().saturating_add(1);
+        let wanted = match self.nodes.open_form() {
+            Form::Item => return Ok(()),
+            Form::Domain if matches!(node_at(self.nodes.all(), first).form, Form::Word) => {
+                return Ok(());
             }
-            _ => Err(self.stop(place, Wanted::Close)),
-        }
+            Form::Domain => Wanted::Arrow,
+            _ => Wanted::Close,
+        };
+        Err(self.stop(place, wanted))
     }
 }

@@ -1,10 +1,10 @@
 //! The tokens of each item.
 ghost use Rattle.std.specs.Prelude.{◌≡◌};
 
-use crate::signs::{Sign, sign_of};
 use crate::spots::Span;
+use crate::symbols::{Symbol, symbol_at, symbol_of};
 use ap_defs::memory::Memory;
-use ap_lexer::{Token, TokenKind};
+use ap_lexer::Token;
 use std::alloc::Global;
 
 /// The tokens of an item: the places of its first and of its `.`, or of the end of the text.
@@ -19,7 +19,7 @@ pub fn ranges_of(alloc: Global, tokens: &[Token<'_>]) -> Result<Vec<Range>, Memo
     let mut ranges = Vec::new(alloc);
     let mut first = 0;
     for (place, token) in tokens.iter().enumerate() {
-        if sign_of(token) == Sign::Dot {
+        if matches!(symbol_of(token), Symbol::Dot) {
             ranges.push(Range { first, end: place })?;
             first = place.saturating_add(1);
         }
@@ -95,16 +95,14 @@ pub fn line_at(tokens: &[Token<'_>], place: usize) -> u64 {
 
 /// The word that an item declares in one of the spaces, if it declares any: the place of its token.
 pub fn declared_word(tokens: &[Token<'_>]) -> Option<(Space, usize)> {
-    let first = tokens.first()?;
-    if first.kind == TokenKind::Reserved && first.text == "pred" {
-        return Some((Space::Predicates, 1));
-    }
-    if first.kind != TokenKind::Ident || text_at(tokens, 1) != ":" {
-        return None;
-    }
-    match text_at(tokens, 2) {
-        "type" | "name_type" => Some((Space::Types, 0)),
-        _ => Some((Space::Constructors, 0)),
+    let colon = symbol_at(tokens, 1);
+    match symbol_at(tokens, 0) {
+        Symbol::Predicate => Some((Space::Predicates, 1)),
+        Symbol::Word if matches!(colon, Symbol::Colon) => match symbol_at(tokens, 2) {
+            Symbol::Type | Symbol::NameType => Some((Space::Types, 0)),
+            _ => Some((Space::Constructors, 0)),
+        },
+        _ => None,
     }
 }
 

@@ -10,6 +10,7 @@
 pub mod characters;
 mod goal_reader;
 pub mod grammar;
+mod habit_table;
 mod habits;
 mod item_reader;
 pub mod items;
@@ -18,7 +19,7 @@ pub mod nearest;
 pub mod nesting;
 pub mod nodes;
 pub mod reader;
-mod signs;
 pub mod slips;
 pub mod spots;
+mod symbols;
 mod term_reader;

@@ -74,26 +74,35 @@ impl Message {
         }
     }
 
-    /// Goes on with the part that was begun last; at first that is the sentence.
-    pub fn say(&mut self, pieces: &[Piece<'_>]) {
-        for piece in pieces {
-            if self.add(*piece).is_err() {
-                self.is_whole = false;
-            }
+    fn put(&mut self, piece: Piece<'_>) {
+        if self.add(piece).is_err() {
+            self.lose();
+        }
+    }
+
+    /// Goes on with the part that was begun last; at first that is the sentence. Each `@` of what is said stands for one of
+    /// the pieces.
+    pub fn say(&mut self, said: &str, pieces: &[Piece<'_>]) {
+        let mut pieces = pieces.iter();
+        let mut parts = said.split("@");
+        self.put(Piece::Text(parts.next().unwrap_or("")));
+        for part in parts {
+            self.put(*pieces.next().unwrap_or(&Piece::Text("")));
+            self.put(Piece::Text(part));
         }
     }
 
     /// Begins the label.
-    pub fn label(&mut self, pieces: &[Piece<'_>]) {
+    pub fn label(&mut self, said: &str, pieces: &[Piece<'_>]) {
         self.part = Part::Label;
-        self.say(pieces);
+        self.say(said, pieces);
     }
 
     /// Begins a note.
-    pub fn note(&mut self, pieces: &[Piece<'_>]) {
+    pub fn note(&mut self, said: &str, pieces: &[Piece<'_>]) {
         self.part = Part::Note;
-        self.say(&[Piece::Text("\n")]);
-        self.say(pieces);
+        self.put(Piece::Text("\n"));
+        self.say(said, pieces);
     }
 
     /// Tells that memory was wanting for something that was to be said.
@@ -102,72 +111,93 @@ impl Message {
     }
 }
 
-/// Adds as many spaces as a number has digits.
-fn add_margin(out: &mut String, number: &str) -> Result<(), Memory> {
-    for _ in 0..number.len() {
-        out.push(' ')?;
+/// Adds pieces to what is said.
+fn add_pieces(out: &mut String, pieces: &[Piece<'_>]) -> Result<(), Memory> {
+    for piece in pieces {
+        add_piece(out, *piece)?;
     }
     Ok(())
+}
+
+// As many spaces as the longest number has digits.
+const SPACES: &str = "                    ";
+
+/// As many spaces as a number has digits.
+fn margin_of(number: usize) -> &'static str {
+    let mut rest = number / 10;
+    for digits in 1..SPACES.len() {
+        if rest == 0 {
+            return SPACES.get(..digits).unwrap_or(SPACES);
+        }
+        rest /= 10;
+    }
+    SPACES
 }
 
 /// Adds the sentence and the place.
-fn add_head(out: &mut String, word: &str, sentence: &str, spot: Spot) -> Result<(), Memory> {
-    add_piece(out, Piece::Text(word))?;
-    add_piece(out, Piece::Text(": "))?;
-    add_piece(out, Piece::Text(sentence))?;
-    add_piece(out, Piece::Text("\n  line "))?;
-    add_piece(out, Piece::Number(spot.line as u64))?;
-    add_piece(out, Piece::Text(", column "))?;
-    add_piece(out, Piece::Number(spot.column as u64))?;
-    add_piece(out, Piece::Text("\n"))?;
-    Ok(())
+fn add_head<'x>(
+    out: &mut String,
+    word: &'x str,
+    sentence: &'x str,
+    spot: Spot,
+) -> Result<(), Memory> {
+    add_pieces(
+        out,
+        &[
+            Piece::Text(word),
+            Piece::Text(": "),
+            Piece::Text(sentence),
+            Piece::Text("\n  line "),
+            Piece::Number(spot.line as u64),
+            Piece::Text(", column "),
+            Piece::Number(spot.column as u64),
+            Piece::Text("\n"),
+        ],
+    )
 }
 
 /// Adds the line with a number and the marks below it, with a label.
-fn add_excerpt(
+fn add_excerpt<'x>(
     out: &mut String,
-    number: &str,
-    excerpt: &Excerpt,
-    label: &str,
+    number: usize,
+    excerpt: &'x Excerpt,
+    label: &'x str,
 ) -> Result<(), Memory> {
-    out.push_str(number)?;
-    out.push_str(" | ")?;
-    out.push_str(excerpt.line.as_str())?;
-    out.push('\n')?;
-    add_margin(out, number)?;
-    out.push_str(" | ")?;
-    out.push_str(excerpt.marks.as_str())?;
-    if !label.is_empty() {
-        out.push(' ')?;
-        out.push_str(label)?;
-    }
-    Ok(())
+    let space = if label.is_empty() { "" } else { " " };
+    add_pieces(
+        out,
+        &[
+            Piece::Number(number as u64),
+            Piece::Text(" | "),
+            Piece::Text(excerpt.line.as_str()),
+            Piece::Text("\n"),
+            Piece::Text(margin_of(number)),
+            Piece::Text(" | "),
+            Piece::Text(excerpt.marks.as_str()),
+            Piece::Text(space),
+            Piece::Text(label),
+        ],
+    )
 }
 
-/// Adds the notes, each of which stands behind a line feed.
-fn add_notes(out: &mut String, number: &str, notes: &str) -> Result<(), Memory> {
-    for c in notes.chars() {
-        out.push(c)?;
-        if c == '\n' {
-            add_margin(out, number)?;
-            out.push_str(" = ")?;
-        }
+/// Adds the notes, each of which stands behind a line feed, below a line with a number.
+fn add_notes(out: &mut String, number: usize, notes: &str) -> Result<(), Memory> {
+    let margin = margin_of(number);
+    let mut all = notes.split("\n");
+    let _front = all.next();
+    for note in all {
+        add_pieces(
+            out,
+            &[
+                Piece::Text("\n"),
+                Piece::Text(margin),
+                Piece::Text(" = "),
+                Piece::Text(note),
+            ],
+        )?;
     }
-    out.push('\n')?;
+    add_piece(out, Piece::Text("\n"))?;
     Ok(())
-}
-
-/// Adds what stands below the sentence: the line with a number, and the notes.
-fn add_body(
-    alloc: Global,
-    out: &mut String,
-    text: &[u8],
-    number: &str,
-    message: &Message,
-) -> Result<(), Memory> {
-    let excerpt = excerpt_of(alloc, text, message.span)?;
-    add_excerpt(out, number, &excerpt, message.label.as_str())?;
-    add_notes(out, number, message.notes.as_str())
 }
 
 /// Adds a message as it is written, under a word such as `error`. `Err` is want of memory.
@@ -182,8 +212,8 @@ pub fn add_message(
         return Err(Memory);
     }
     let spot = spot_of(text, message.span.start);
+    let excerpt = excerpt_of(alloc, text, message.span)?;
     add_head(out, word, message.sentence.as_str(), spot)?;
-    let mut number = String::new(alloc);
-    add_piece(&mut number, Piece::Number(spot.line as u64))?;
-    add_body(alloc, out, text, number.as_str(), message)
+    add_excerpt(out, spot.line, &excerpt, message.label.as_str())?;
+    add_notes(out, spot.line, message.notes.as_str())
 }

@@ -2,8 +2,8 @@
 ghost use Rattle.std.specs.Prelude.{◌≡◌};
 
 use crate::nodes::{Form, Nodes};
-use crate::signs::{Sign, sign_of};
 use crate::slips::{Slip, Wanted};
+use crate::symbols::{Symbol, symbol_at, symbol_of};
 use ap_defs::memory::Memory;
 use ap_lexer::Token;
 use std::alloc::{AllocError, AllocFailed, Global};
@@ -19,8 +19,14 @@ pub(crate) enum Expect {
     TermOrClose,
     /// A term or a goal has ended.
     After,
-    /// The token that was looked at already.
-    Known(Known),
+    /// The `\` behind a binder, which was looked at already.
+    Lambda,
+    /// The `:` of a declaration, which was looked at already.
+    Colon,
+    /// The `(` of arguments.
+    Open,
+    /// The `(` behind a binder of goals.
+    OpenGoals,
     NewName,
     ExistsName,
     PredicateWord,
@@ -28,19 +34,6 @@ pub(crate) enum Expect {
     DeclaredType,
     ResultWord,
     End,
-}
-
-/// What a token is that was looked at already, or must be.
-#[derive(Clone, Copy)]
-pub(crate) enum Known {
-    /// The `\` behind a binder.
-    Lambda,
-    /// The `(` of arguments.
-    Open,
-    /// The `(` behind a binder of goals.
-    OpenGoals,
-    /// The `:` of a declaration.
-    Colon,
 }
 
 /// Why reading stops.
@@ -100,9 +93,9 @@ fn closes_of(alloc: Global, tokens: &[Token<'_>]) -> Result<Vec<usize>, Memory> 
     let mut open: Vec<usize> = Vec::new(alloc);
     for (place, token) in tokens.iter().enumerate() {
         closes.push(0)?;
-        match sign_of(token) {
-            Sign::Open | Sign::OpenList => open.push(place)?,
-            Sign::Close | Sign::CloseList => {
+        match symbol_of(token) {
+            Symbol::Open | Symbol::OpenList => open.push(place)?,
+            Symbol::Close | Symbol::CloseList => {
                 if let Some(at) = open.pop() {
                     set_at(&mut closes, at, place);
                 }
@@ -122,14 +115,17 @@ impl<'t, 'a> Reader<'t, 'a> {
         })
     }
 
-    /// The place of the bracket that closes the one at a place, if one does.
-    pub(crate) fn close_of(&mut self, place: usize) -> Result<Option<usize>, Stop> {
+    /// Whether the `(` at a place begins a term of an equation or a freshness goal.
+    pub(crate) fn begins_term(&mut self, place: usize) -> Result<bool, Stop> {
         if self.closes.is_empty() {
             self.closes = closes_of(self.alloc, self.tokens)?;
         }
         match self.closes.get(place) {
-            Some(close) if *close != 0 => Ok(Some(*close)),
-            _ => Ok(None),
+            Some(close) if *close != 0 => {
+                let next = symbol_at(self.tokens, close.saturating_add(1));
+                Ok(matches!(next, Symbol::Equal | Symbol::Fresh))
+            }
+            _ => Ok(false),
         }
     }
 
@@ -147,6 +143,35 @@ impl<'t, 'a> Reader<'t, 'a> {
         Ok(())
     }
 
+    /// Goes by a token that must be this symbol. Tells what comes next.
+    pub(crate) fn pass(
+        &mut self,
+        place: usize,
+        symbol: Symbol,
+        wanted: Wanted,
+        next: Expect,
+    ) -> Result<(), Stop> {
+        if symbol_at(self.tokens, place) != symbol {
+            return Err(self.stop(place, wanted));
+        }
+        self.expect = next;
+        Ok(())
+    }
+
+    /// Adds a node of one token that must be a word. Tells what comes next.
+    pub(crate) fn add_word(
+        &mut self,
+        place: usize,
+        wanted: Wanted,
+        form: Form,
+        next: Expect,
+    ) -> Result<(), Stop> {
+        match symbol_at(self.tokens, place) {
+            Symbol::Word => self.add(form, place, next),
+            _ => Err(self.stop(place, wanted)),
+        }
+    }
+
     /// Takes the token at a place.
     fn take(&mut self, place: usize, token: &Token<'a>) -> Result<(), Stop> {
         match self.expect {
@@ -155,13 +180,22 @@ impl<'t, 'a> Reader<'t, 'a> {
             Expect::Term => self.take_term(place, token),
             Expect::TermOrClose => self.take_term_or_close(place, token),
             Expect::After => self.take_after(place, token),
-            Expect::Known(known) => self.take_known(place, token, known),
-            Expect::NewName => self.take_new_name(place, token),
+            Expect::Lambda => self.pass(place, Symbol::Lambda, Wanted::Open, Expect::Term),
+            Expect::Colon => self.pass(place, Symbol::Colon, Wanted::Open, Expect::DeclaredType),
+            Expect::Open => self.pass(place, Symbol::Open, Wanted::Open, Expect::Term),
+            Expect::OpenGoals => self.pass(place, Symbol::Open, Wanted::Open, Expect::Goal),
+            Expect::NewName => {
+                self.add_word(place, Wanted::Name, Form::Binder, Expect::OpenGoals)
+            }
             Expect::ExistsName => self.take_exists_name(place, token),
             Expect::PredicateWord => self.take_predicate_word(place, token),
-            Expect::PredicateOpen => self.take_predicate_open(place, token),
+            Expect::PredicateOpen => {
+                self.pass(place, Symbol::Open, Wanted::PredicateTypes, Expect::Term)
+            }
             Expect::DeclaredType => self.take_declared_type(place, token),
-            Expect::ResultWord => self.take_result_word(place, token),
+            Expect::ResultWord => {
+                self.add_word(place, Wanted::ResultWord, Form::Word, Expect::End)
+            }
             Expect::End => Err(self.stop(place, Wanted::End)),
         }
     }

@@ -2,29 +2,32 @@
 ghost use Rattle.std.specs.Prelude.{◌≡◌};
 
 use crate::nodes::Form;
-use crate::reader::{Expect, Known, Reader, Stop};
-use crate::signs::{Sign, sign_at, sign_of};
+use crate::reader::{Expect, Reader, Stop};
 use crate::slips::Wanted;
-use ap_lexer::{Token, TokenKind};
+use crate::symbols::{Symbol, symbol_at, symbol_of};
+use ap_lexer::Token;
 
 impl<'t, 'a> Reader<'t, 'a> {
     pub(crate) fn take_term(&mut self, place: usize, token: &Token<'a>) -> Result<(), Stop> {
-        if self.nodes.open_form() == Form::Swap && self.nodes.open_count() < 2 {
+        if matches!(self.nodes.open_form(), Form::Swap) && self.nodes.open_count() < 2 {
             return self.take_side(place, token);
         }
-        match token.kind {
-            TokenKind::Ident => self.take_word(place),
-            TokenKind::Var => self.take_variable(place),
-            TokenKind::Reserved => self.take_swap(place, token),
-            TokenKind::Sign => self.take_opening(place, token),
+        match symbol_of(token) {
+            Symbol::Word => self.take_word(place),
+            Symbol::Variable if !self.in_type => self.take_variable(place),
+            Symbol::Swap if !self.in_type => self.enter(Form::Swap, place, Expect::Open),
+            Symbol::Open => self.enter(Form::Tuple, place, Expect::TermOrClose),
+            Symbol::OpenList if self.in_type => self.enter(Form::List, place, Expect::Term),
+            Symbol::OpenList => self.enter(Form::List, place, Expect::TermOrClose),
+            _ => Err(self.stop(place, self.wanted_term())),
         }
     }
 
     /// One of the two identifiers of a swapping.
-    pub(crate) fn take_side(&mut self, place: usize, token: &Token<'a>) -> Result<(), Stop> {
-        let form = match token.kind {
-            TokenKind::Ident => Form::Word,
-            TokenKind::Var => Form::Variable,
+    fn take_side(&mut self, place: usize, token: &Token<'a>) -> Result<(), Stop> {
+        let form = match symbol_of(token) {
+            Symbol::Word => Form::Word,
+            Symbol::Variable => Form::Variable,
             _ => return Err(self.stop(place, Wanted::Name)),
         };
         self.add(form, place, Expect::After)
@@ -33,35 +36,22 @@ impl<'t, 'a> Reader<'t, 'a> {
     /// Opens an abstraction, and takes what stands before its `\`.
     fn take_binder(&mut self, place: usize) -> Result<(), Stop> {
         self.nodes.enter(Form::Abs, place)?;
-        self.add(Form::Binder, place, Expect::Known(Known::Lambda))
+        self.add(Form::Binder, place, Expect::Lambda)
     }
 
     pub(crate) fn take_word(&mut self, place: usize) -> Result<(), Stop> {
-        match sign_at(self.tokens, place.saturating_add(1)) {
-            Sign::Lambda => self.take_binder(place),
-            Sign::Open if !self.in_type => {
-                self.enter(Form::Apply, place, Expect::Known(Known::Open))
-            }
+        match symbol_at(self.tokens, place.saturating_add(1)) {
+            Symbol::Lambda => self.take_binder(place),
+            Symbol::Open if !self.in_type => self.enter(Form::Apply, place, Expect::Open),
             _ => self.add(Form::Word, place, Expect::After),
         }
     }
 
-    pub(crate) fn take_variable(&mut self, place: usize) -> Result<(), Stop> {
-        if self.in_type {
-            return Err(self.stop(place, Wanted::Type));
+    fn take_variable(&mut self, place: usize) -> Result<(), Stop> {
+        match symbol_at(self.tokens, place.saturating_add(1)) {
+            Symbol::Lambda => self.take_binder(place),
+            _ => self.add(Form::Variable, place, Expect::After),
         }
-        if sign_at(self.tokens, place.saturating_add(1)) == Sign::Lambda {
-            self.take_binder(place)
-        } else {
-            self.add(Form::Variable, place, Expect::After)
-        }
-    }
-
-    pub(crate) fn take_swap(&mut self, place: usize, token: &Token<'a>) -> Result<(), Stop> {
-        if token.text != "swap" || self.in_type {
-            return Err(self.stop(place, self.wanted_term()));
-        }
-        self.enter(Form::Swap, place, Expect::Known(Known::Open))
     }
 
     pub(crate) fn wanted_term(&self) -> Wanted {
@@ -72,25 +62,16 @@ impl<'t, 'a> Reader<'t, 'a> {
         }
     }
 
-    pub(crate) fn take_opening(&mut self, place: usize, token: &Token<'a>) -> Result<(), Stop> {
-        match sign_of(token) {
-            Sign::Open => self.enter(Form::Tuple, place, Expect::TermOrClose),
-            Sign::OpenList if self.in_type => self.enter(Form::List, place, Expect::Term),
-            Sign::OpenList => self.enter(Form::List, place, Expect::TermOrClose),
-            _ => Err(self.stop(place, self.wanted_term())),
-        }
-    }
-
     pub(crate) fn take_term_or_close(
         &mut self,
         place: usize,
         token: &Token<'a>,
     ) -> Result<(), Stop> {
         let close = match self.nodes.open_form() {
-            Form::Tuple => Sign::Close,
-            _ => Sign::CloseList,
+            Form::Tuple => Symbol::Close,
+            _ => Symbol::CloseList,
         };
-        if sign_of(token) == close {
+        if symbol_of(token) == close {
             self.nodes.leave(place);
             self.expect = Expect::After;
             return Ok(());
@@ -102,9 +83,9 @@ impl<'t, 'a> Reader<'t, 'a> {
         &mut self,
         place: usize,
         token: &Token<'a>,
-        sign: Sign,
+        symbol: Symbol,
     ) -> Result<(), Stop> {
-        if sign_of(token) != sign {
+        if symbol_of(token) != symbol {
             return Err(self.stop(place, Wanted::Close));
         }
         self.nodes.leave(place);
@@ -120,29 +101,27 @@ impl<'t, 'a> Reader<'t, 'a> {
         place: usize,
         token: &Token<'a>,
     ) -> Result<(), Stop> {
-        if sign_of(token) == Sign::Comma {
-            self.expect = Expect::Term;
-            return Ok(());
+        match symbol_of(token) {
+            Symbol::Comma => {
+                self.expect = Expect::Term;
+                Ok(())
+            }
+            _ => self.take_close(place, token, Symbol::Close),
         }
-        self.take_close(place, token, Sign::Close)
     }
 
     pub(crate) fn take_in_swap(&mut self, place: usize, token: &Token<'a>) -> Result<(), Stop> {
         if self.nodes.open_count() < 3 {
-            if sign_of(token) == Sign::Comma {
-                self.expect = Expect::Term;
-                return Ok(());
-            }
-            return Err(self.stop(place, Wanted::Swap));
+            return self.pass(place, Symbol::Comma, Wanted::Swap, Expect::Term);
         }
-        self.take_close(place, token, Sign::Close)
+        self.take_close(place, token, Symbol::Close)
     }
 
     pub(crate) fn take_in_list(&mut self, place: usize, token: &Token<'a>) -> Result<(), Stop> {
-        match sign_of(token) {
-            Sign::Comma if !self.in_type => {}
-            Sign::Bar if !self.in_type => self.nodes.change(Form::ListTail),
-            _ => return self.take_close(place, token, Sign::CloseList),
+        match symbol_of(token) {
+            Symbol::Comma if !self.in_type => {}
+            Symbol::Bar if !self.in_type => self.nodes.change(Form::ListTail),
+            _ => return self.take_close(place, token, Symbol::CloseList),
         }
         self.expect = Expect::Term;
         Ok(())

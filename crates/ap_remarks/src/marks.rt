@@ -7,7 +7,7 @@ use ap_defs::memory::Memory;
 use std::alloc::Global;
 
 /// What a token is.
-#[derive(Clone, Copy, PartialEq, Eq)]
+#[derive(Clone, Copy)]
 pub(crate) enum Kind {
     /// An identifier, or a word that stands in declarations alone.
     Word,

@@ -16,12 +16,12 @@ pub(crate) struct Part {
 pub(crate) fn declares(marks: &[Mark]) -> bool {
     match kind_at(marks, 0) {
         Kind::Predicate => true,
-        Kind::Word => kind_at(marks, 1) == Kind::Colon,
+        Kind::Word => matches!(kind_at(marks, 1), Kind::Colon),
         _ => false,
     }
 }
 
 /// Whether the item of these tokens, which declares nothing, is a clause.
 pub(crate) fn is_clause(marks: &[Mark]) -> bool {
-    kind_at(marks, 0) == Kind::Word
+    matches!(kind_at(marks, 0), Kind::Word)
 }

@@ -92,32 +92,23 @@ impl Finder {
 
     fn take(&mut self, marks: &[Mark], place: usize, mark: Mark) -> Result<(), Memory> {
         match self.expect {
-            Expect::Goal => self.take_goal(marks, place, mark),
-            Expect::BoundName => {
-                self.expect = Expect::Bracket;
-                Ok(())
-            }
-            Expect::Bracket => {
-                self.expect = Expect::Goal;
-                Ok(())
-            }
-            Expect::Rest => self.take_rest(marks, place, mark),
+            Expect::Goal => return self.take_goal(marks, place, mark),
+            Expect::Rest => return self.take_rest(marks, place, mark),
+            Expect::BoundName => self.expect = Expect::Bracket,
+            Expect::Bracket => self.expect = Expect::Goal,
         }
+        Ok(())
     }
 
     fn take_goal(&mut self, marks: &[Mark], place: usize, mark: Mark) -> Result<(), Memory> {
         match mark.kind {
-            Kind::Word => self.take_word(marks, place),
-            Kind::Open | Kind::OpenList => self.take_opening(marks, place, mark),
-            Kind::Binder => {
-                self.expect = Expect::BoundName;
-                Ok(())
-            }
-            _ => {
-                self.expect = Expect::Rest;
-                Ok(())
-            }
+            Kind::Word => return self.take_word(marks, place),
+            Kind::Open => return self.take_open(marks, place),
+            Kind::OpenList => self.enter_term(),
+            Kind::Binder => self.expect = Expect::BoundName,
+            _ => self.expect = Expect::Rest,
         }
+        Ok(())
     }
 
     fn take_word(&mut self, marks: &[Mark], place: usize) -> Result<(), Memory> {
@@ -136,18 +127,23 @@ impl Finder {
             self.closes = closes_of(self.alloc, marks)?;
         }
         match self.closes.get(place) {
-            Some(close) => Ok(kind_at(marks, close.saturating_add(1)) == Kind::Test),
+            Some(close) => Ok(matches!(kind_at(marks, close.saturating_add(1)), Kind::Test)),
             None => Ok(false),
         }
     }
 
-    fn take_opening(&mut self, marks: &[Mark], place: usize, mark: Mark) -> Result<(), Memory> {
-        if mark.kind == Kind::Open && !self.begins_term(marks, place)? {
-            return Ok(());
+    /// Takes the `(` at a place, which begins a term or goals.
+    fn take_open(&mut self, marks: &[Mark], place: usize) -> Result<(), Memory> {
+        if self.begins_term(marks, place)? {
+            self.enter_term();
         }
+        Ok(())
+    }
+
+    /// A bracket of a term is open.
+    fn enter_term(&mut self) {
         self.expect = Expect::Rest;
         self.depth = 1;
-        Ok(())
     }
 
     fn take_rest(&mut self, marks: &[Mark], place: usize, mark: Mark) -> Result<(), Memory> {
@@ -167,7 +163,7 @@ impl Finder {
         }
         if let Some(word) = self.word {
             self.word = None;
-            if kind_at(marks, place.saturating_add(1)) != Kind::Test {
+            if !matches!(kind_at(marks, place.saturating_add(1)), Kind::Test) {
                 self.calls.push(word)?;
             }
         }
@@ -182,7 +178,7 @@ pub(crate) fn put_arguments(
     places: &mut Vec<usize>,
 ) -> Result<(), Memory> {
     places.clear();
-    if kind_at(marks, word.saturating_add(1)) != Kind::Open {
+    if !matches!(kind_at(marks, word.saturating_add(1)), Kind::Open) {
         return Ok(());
     }
     let first = word.saturating_add(2);

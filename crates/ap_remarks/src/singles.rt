@@ -19,15 +19,29 @@ fn count_word<'a>(
     word: &'a str,
     token: usize,
 ) -> Result<(), Memory> {
-    match words.get_index_of(word) {
-        Some(place) => {
-            if let Some(variable) = variables.get_mut(place) {
-                variable.count = variable.count.saturating_add(1);
+    let (place, is_new) = words.insert_full(word)?;
+    if is_new {
+        variables.push(Variable { token, count: 0 })?;
+    }
+    if let Some(variable) = variables.get_mut(place) {
+        variable.count = variable.count.saturating_add(1);
+    }
+    Ok(())
+}
+
+/// Counts the variables of an item that don't begin with `_`.
+fn count_words<'a>(
+    words: &mut IndexSet<&'a str>,
+    variables: &mut Vec<Variable>,
+    text: &'a str,
+    marks: &[Mark],
+) -> Result<(), Memory> {
+    for (place, mark) in marks.iter().enumerate() {
+        if matches!(mark.kind, Kind::Variable) {
+            let word = text_at(text, marks, place);
+            if !word.starts_with('_') {
+                count_word(words, variables, word, place)?;
             }
-        }
-        None => {
-            words.insert(word)?;
-            variables.push(Variable { token, count: 1 })?;
         }
     }
     Ok(())
@@ -41,15 +55,10 @@ pub(crate) fn single_variables(
 ) -> Result<Vec<usize>, Memory> {
     let mut words = IndexSet::new(alloc);
     let mut variables = Vec::new(alloc);
-    for (place, mark) in marks.iter().enumerate() {
-        if mark.kind == Kind::Variable {
-            let word = text_at(text, marks, place);
-            if !word.starts_with('_') {
-                count_word(&mut words, &mut variables, word, place)?;
-            }
-        }
+    match count_words(&mut words, &mut variables, text, marks) {
+        Ok(()) => single_tokens(alloc, variables.as_slice()),
+        Err(Memory) => Err(Memory),
     }
-    single_tokens(alloc, variables.as_slice())
 }
 
 fn single_tokens(alloc: Global, variables: &[Variable]) -> Result<Vec<usize>, Memory> {

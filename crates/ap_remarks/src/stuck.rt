@@ -34,29 +34,24 @@ fn right_part(nodes: &[Node], place: usize) -> Node {
 
 /// Notes how the goal at a place with a variable on its left is turned.
 fn note_way_out<'a>(message: &mut Message, tokens: &[Token<'a>], variable: &'a str, right: Node) {
-    message.note(&[]);
-    if right.form == Form::Word {
-        message.say(&[
-            Piece::Text("put the name on the left, `"),
-            Piece::Word(text_at(tokens, right.first)),
-            Piece::Text(" # "),
-        ]);
-        message.say(&[
-            Piece::Word(variable),
-            Piece::Text("`, or the goal behind those that make `"),
-        ]);
+    let of = Piece::Word(variable);
+    if matches!(right.form, Form::Word) {
+        message.note(
+            "put the name on the left, `@ # @`, or the goal behind those that make `@` a name",
+            &[Piece::Word(text_at(tokens, right.first)), of, of],
+        );
     } else {
-        message.say(&[Piece::Text("put the goal behind those that make `")]);
+        message.note("put the goal behind those that make `@` a name", &[of]);
     }
-    message.say(&[Piece::Word(variable), Piece::Text("` a name")]);
 }
 
 fn stuck_message(alloc: Global, tokens: &[Token<'_>], nodes: &[Node], place: usize) -> Message {
     let goal = node_at(nodes, place);
     let mut message = Message::new(alloc, span_between(tokens, goal.first, goal.last));
-    message.say(&[Piece::Text(
+    message.say(
         "a branch is stuck where the left side of this goal is still a variable",
-    )]);
+        &[],
+    );
     let variable = text_at(tokens, goal.first);
     note_way_out(&mut message, tokens, variable, right_part(nodes, place));
     message
@@ -83,7 +78,8 @@ impl<'t> Goals<'t> {
         let nodes = reading.nodes.all();
         for (place, node) in nodes.iter().enumerate() {
             let left = node_at(nodes, place.saturating_add(1));
-            let open = node.form == Form::Fresh && left.form == Form::Variable;
+            let is_fresh = matches!(node.form, Form::Fresh);
+            let open = is_fresh && matches!(left.form, Form::Variable);
             if open && self.count < MOST {
                 self.show(alloc, tokens, nodes, place)?;
             }

@@ -60,8 +60,8 @@ enum Begin {
 fn begin_at(marks: &[Mark], place: usize) -> Begin {
     let next = kind_at(marks, place.saturating_add(1));
     match kind_at(marks, place) {
-        Kind::Word if next != Kind::Lambda => Begin::Word,
-        Kind::OpenList if next == Kind::CloseList => Begin::Other(EMPTY),
+        Kind::Word if !matches!(next, Kind::Lambda) => Begin::Word,
+        Kind::OpenList if matches!(next, Kind::CloseList) => Begin::Other(EMPTY),
         Kind::OpenList => Begin::Other(LIST),
         _ => Begin::Other(ANY),
     }

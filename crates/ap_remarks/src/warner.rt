@@ -41,27 +41,24 @@ fn span_at(marks: &[Mark], place: usize) -> Span {
 fn single_message(alloc: Global, text: &str, marks: &[Mark], place: usize) -> Message {
     let word = text_at(text, marks, place);
     let mut message = Message::new(alloc, span_at(marks, place));
-    message.say(&[
-        Piece::Text("the variable `"),
-        Piece::Word(word),
-        Piece::Text("` stands once in its clause"),
-    ]);
-    message.note(&[
-        Piece::Text("where any term will do it is spelled `_` or `_"),
-        Piece::Word(word),
-        Piece::Text("`; else is it misspelt?"),
-    ]);
+    message.say(
+        "the variable `@` stands once in its clause",
+        &[Piece::Word(word)],
+    );
+    message.note(
+        "where any term will do it is spelled `_` or `_@`; else is it misspelt?",
+        &[Piece::Word(word)],
+    );
     message
 }
 
 fn empty_message(alloc: Global, text: &str, marks: &[Mark], place: usize) -> Message {
     let mut message = Message::new(alloc, span_at(marks, place));
-    message.say(&[
-        Piece::Text("no clause has the predicate `"),
-        Piece::Word(text_at(text, marks, place)),
-        Piece::Text("`"),
-    ]);
-    message.note(&[Piece::Text("this goal never holds")]);
+    message.say(
+        "no clause has the predicate `@`",
+        &[Piece::Word(text_at(text, marks, place))],
+    );
+    message.note("this goal never holds", &[]);
     message
 }
 
@@ -69,17 +66,17 @@ fn empty_message(alloc: Global, text: &str, marks: &[Mark], place: usize) -> Mes
 fn unmet_message(alloc: Global, text: &str, marks: &[Mark], rank: usize, place: usize) -> Message {
     let word = text_at(text, marks, 0);
     let mut message = Message::new(alloc, span_at(marks, place));
-    message.say(&[
-        Piece::Text("no goal of this text can use this clause of `"),
-        Piece::Word(word),
-        Piece::Text("`"),
-    ]);
-    message.note(&[
-        Piece::Text("each goal `"),
-        Piece::Word(word),
-        Piece::Text("(..)` has another constructor as argument "),
-        Piece::Number(rank.saturating_add(1) as u64),
-    ]);
+    message.say(
+        "no goal of this text can use this clause of `@`",
+        &[Piece::Word(word)],
+    );
+    message.note(
+        "each goal `@(..)` has another constructor as argument @",
+        &[
+            Piece::Word(word),
+            Piece::Number(rank.saturating_add(1) as u64),
+        ],
+    );
     message
 }
 

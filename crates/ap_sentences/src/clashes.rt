@@ -3,9 +3,9 @@ ghost use Rattle.std.specs.Prelude.{◌≡◌};
 
 use crate::declared::Entry;
 use crate::slots::{Cause, Clash};
-use crate::subject::{COMPARED, Subject, note_declared, say_declared};
+use crate::subject::{COMPARED, Subject, note_declared, note_meant, say_declared};
 use crate::types::Shape;
-use crate::typing::{Typing, applied_space};
+use crate::typing::{Typing, applied_space, is_goal};
 use crate::written::say_kind;
 use ap_defs::memory::Memory;
 use ap_lexer::Token;
@@ -14,37 +14,25 @@ use ap_located::messages::{Message, Piece};
 use ap_located::nearest::Nearest;
 use ap_located::nodes::{Form, LEVELS, Node, node_at};
 use ap_located::spots::spot_of;
-use std::alloc::Global;
+use std::alloc::{AllocError, Global};
 
 /// Says what a node is.
 fn say_what(message: &mut Message, tokens: &[Token<'_>], node: Node) {
-    let what = match node.form {
+    let said = match node.form {
         Form::Tuple if node.count == 0 => "this",
         Form::Tuple => "this tuple",
         Form::List | Form::ListTail => "this list",
         Form::Abs => "this abstraction",
-        _ => "",
+        Form::Apply => "`@(..)`",
+        _ => "`@`",
     };
-    if !what.is_empty() {
-        message.say(&[Piece::Text(what)]);
-        return;
-    }
-    let end = if node.form == Form::Apply {
-        "(..)`"
-    } else {
-        "`"
-    };
-    message.say(&[
-        Piece::Text("`"),
-        Piece::Word(text_at(tokens, node.first)),
-        Piece::Text(end),
-    ]);
+    message.say(said, &[Piece::Word(text_at(tokens, node.first))]);
 }
 
 /// Whether a node is a name: a word that is no constructor.
 fn is_name(typing: &Typing<'_, '_>, node: Node) -> bool {
     let word = text_at(typing.tokens, node.first);
-    node.form == Form::Word && typing.words.constructors.get(word).is_none()
+    matches!(node.form, Form::Word) && typing.words.constructors.get(word).is_none()
 }
 
 /// The node, or the largest one round it of which it is a part by abstractions, tuples and lists alone.
@@ -63,11 +51,10 @@ fn argument_round(nodes: &[Node], node: Node) -> Node {
 /// The word whose argument a node is, with its declaration.
 fn argument_of<'a>(typing: &Typing<'_, 'a>, nodes: &[Node], node: Node) -> Option<Entry<'a>> {
     let above = node_at(nodes, node.parent);
-    if above.form != Form::Apply {
+    if !matches!(above.form, Form::Apply) {
         return None;
     }
-    let over = node_at(nodes, above.parent).form;
-    let space = applied_space(over == Form::Atom || over == Form::Head);
+    let space = applied_space(is_goal(node_at(nodes, above.parent).form));
     typing
         .words
         .entry(space, text_at(typing.tokens, above.first))
@@ -99,16 +86,13 @@ fn note_argument(
 ) {
     let part = argument_round(nodes, node);
     if let Some(entry) = argument_of(typing, nodes, part) {
-        let begin = if part.first == node.first && part.last == node.last {
-            "this is argument "
+        let said = if part.first == node.first && part.last == node.last {
+            "this is argument @; "
         } else {
-            "this stands in argument "
+            "this stands in argument @; "
         };
-        message.note(&[
-            Piece::Text(begin),
-            Piece::Number(part.rank.saturating_add(1) as u64),
-            Piece::Text("; "),
-        ]);
+        let number = part.rank.saturating_add(1) as u64;
+        message.note(said, &[Piece::Number(number)]);
         say_declared(message, subject, entry);
     }
 }
@@ -122,7 +106,7 @@ fn note_wanted(
     node: Node,
 ) {
     match place_note(node_at(nodes, node.parent).form, node.rank) {
-        Some(note) => message.note(&[Piece::Text(note)]),
+        Some(note) => message.note(note, &[]),
         None => note_argument(message, subject, typing, nodes, node),
     }
 }
@@ -143,14 +127,14 @@ fn note_first(
     }
     let token = node_at(nodes, ident.node).first;
     let spot = spot_of(subject.text, span_at(typing.tokens, token).start);
-    message.note(&[
-        Piece::Text("`"),
-        Piece::Word(text_at(typing.tokens, token)),
-        Piece::Text("` stands first in line "),
-        Piece::Number(spot.line as u64),
-        Piece::Text(", column "),
-        Piece::Number(spot.column as u64),
-    ]);
+    message.note(
+        "`@` stands first in line @, column @",
+        &[
+            Piece::Word(text_at(typing.tokens, token)),
+            Piece::Number(spot.line as u64),
+            Piece::Number(spot.column as u64),
+        ],
+    );
 }
 
 /// Notes where the type of a node comes from.
@@ -162,11 +146,11 @@ fn note_given(
     place: usize,
 ) {
     let node = node_at(nodes, place);
-    let is_word = node.form == Form::Word || node.form == Form::Apply;
+    let is_word = matches!(node.form, Form::Word | Form::Apply);
     let word = text_at(typing.tokens, node.first);
     match typing.words.constructors.get(word) {
-        Some((_, entry)) if is_word => note_declared(message, subject, entry),
-        _ if is_word || node.form == Form::Variable || node.form == Form::Binder => {
+        Some(entry) if is_word => note_declared(message, subject, entry),
+        _ if is_word || matches!(node.form, Form::Variable | Form::Binder) => {
             note_first(message, subject, typing, nodes, place);
         }
         _ => {}
@@ -193,31 +177,22 @@ fn meant<'a>(typing: &Typing<'_, 'a>, word: &'a str, wanted: Shape) -> Option<&'
 }
 
 fn begins_ascii(word: &str) -> bool {
-    match word.as_bytes().first() {
-        Some(byte) => byte.is_ascii(),
-        None => true,
+    match word.as_bytes() {
+        [byte, ..] => byte.is_ascii(),
+        [] => true,
     }
 }
 
 /// Labels a name where a term of a data type is wanted, and notes what may be meant.
 fn label_name<'a>(message: &mut Message, typing: &Typing<'_, 'a>, token: usize, wanted: Shape) {
     let word = text_at(typing.tokens, token);
-    message.label(&[
-        Piece::Text("no constructor `"),
-        Piece::Word(word),
-        Piece::Text("` is declared"),
-    ]);
+    message.label("no constructor `@` is declared", &[Piece::Word(word)]);
     match meant(typing, word, wanted) {
-        Some(near) => {
-            message.note(&[
-                Piece::Text("is `"),
-                Piece::Word(near),
-                Piece::Text("` meant?"),
-            ]);
-        }
-        None if !begins_ascii(word) => message.note(&[Piece::Text(
+        Some(near) => note_meant(message, near),
+        None if !begins_ascii(word) => message.note(
             "a variable begins with `A` to `Z` or `_`; a word with another letter is a name or a constructor",
-        )]),
+            &[],
+        ),
         None => {}
     }
 }
@@ -231,7 +206,7 @@ fn types_message(
     given: usize,
 ) -> Message {
     let mut message = Message::new(alloc, span_between(typing.tokens, node.first, node.last));
-    message.say(&[Piece::Text("a term of ")]);
+    message.say("a term of ", &[]);
     say_kind(
         &mut message,
         alloc,
@@ -239,14 +214,14 @@ fn types_message(
         &typing.slots.types,
         wanted,
     );
-    message.say(&[Piece::Text(" is wanted here, and ")]);
+    message.say(" is wanted here, and ", &[]);
     say_what(&mut message, typing.tokens, node);
     if is_name(typing, node) {
-        message.say(&[Piece::Text(" is a name")]);
+        message.say(" is a name", &[]);
         let shape = typing.slots.types.shape(wanted);
         label_name(&mut message, typing, node.first, shape);
     } else {
-        message.say(&[Piece::Text(" is of ")]);
+        message.say(" is of ", &[]);
         say_kind(
             &mut message,
             alloc,
@@ -267,19 +242,22 @@ fn constructor_message(
 ) -> Message {
     let word = text_at(typing.tokens, node.first);
     let mut message = Message::new(alloc, span_at(typing.tokens, node.first));
-    message.say(&[
-        Piece::Text("a name is wanted here, and `"),
-        Piece::Word(word),
-        Piece::Text("` is a constructor"),
-    ]);
-    if let Some((_, entry)) = typing.words.constructors.get(word) {
+    message.say(
+        "a name is wanted here, and `@` is a constructor",
+        &[Piece::Word(word)],
+    );
+    if let Some(entry) = typing.words.constructors.get(word) {
         note_declared(&mut message, subject, entry);
     }
     message
 }
 
 /// The first token of the first variable or name whose type is a part of itself, or the item's.
-fn endless_token(alloc: Global, typing: &Typing<'_, '_>, nodes: &[Node]) -> Result<usize, Memory> {
+fn endless_token(
+    alloc: Global,
+    typing: &Typing<'_, '_>,
+    nodes: &[Node],
+) -> Result<usize, AllocError> {
     for ident in typing.idents.all() {
         if typing.slots.types.is_endless(alloc, ident.slot)? {
             return Ok(node_at(nodes, ident.node).first);
@@ -296,10 +274,11 @@ fn endless_message(
 ) -> Result<Message, Memory> {
     let token = endless_token(alloc, typing, nodes)?;
     let mut message = Message::new(alloc, span_at(typing.tokens, token));
-    message.say(&[Piece::Text("no types fit: a type would be a part of itself")]);
-    message.note(&[Piece::Text(
+    message.say("no types fit: a type would be a part of itself", &[]);
+    message.note(
         "no term is equal to a list or a tuple that has it as a part, as in `X = [X]`",
-    )]);
+        &[],
+    );
     Ok(message)
 }
 

@@ -10,7 +10,7 @@ use std::alloc::Global;
 const ROUNDS: usize = 100;
 
 /// What is asked of a type.
-#[derive(Clone, Copy, PartialEq, Eq)]
+#[derive(Clone, Copy)]
 pub enum Question {
     /// Whether it has a term.
     HasTerm,
@@ -21,14 +21,16 @@ pub enum Question {
 impl Question {
     /// The answer where nothing speaks against it, or for it.
     fn default(self) -> bool {
-        self == Question::HasTerm
+        matches!(self, Question::HasTerm)
     }
 
     /// What the shape of a part says for a type, if it decides.
     fn decides(self, answers: &[bool], shape: Shape) -> Option<bool> {
-        match shape {
-            Shape::Data(word) => self.unless_default(answers.get(word).copied().unwrap_or(true)),
-            Shape::Name(word) if self == Question::HoldsName(word) => Some(true),
+        match (shape, self) {
+            (Shape::Data(word), _) => {
+                self.unless_default(answers.get(word).copied().unwrap_or(true))
+            }
+            (Shape::Name(word), Question::HoldsName(name)) if word == name => Some(true),
             _ => None,
         }
     }
@@ -144,7 +146,7 @@ impl Question {
     ) -> Result<Vec<bool>, Memory> {
         let mut answers = Vec::new(alloc);
         for entry in words.types.entries() {
-            answers.push(entry.is_name && self == Question::HasTerm)?;
+            answers.push(entry.is_name && self.default())?;
         }
         self.all_rounds(alloc, words, types, &mut answers)?;
         Ok(answers)

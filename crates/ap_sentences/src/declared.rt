@@ -45,23 +45,34 @@ impl<'a> Table<'a> {
         self.entries.as_slice()
     }
 
-    /// What is declared at a place.
-    pub fn at(&self, place: usize) -> Option<Entry<'a>> {
-        self.entries.get(place).copied()
-    }
-
-    /// The place of a word, and what is declared of it.
-    pub fn get(&self, word: &str) -> Option<(usize, Entry<'a>)> {
-        let place = self.words.get_index_of(word)?;
-        let entry = self.entries.get(place)?;
-        Some((place, *entry))
-    }
-
-    fn add(&mut self, entry: Entry<'a>) -> Result<(), Memory> {
-        if self.words.insert(entry.word)? {
-            self.entries.push(entry)?;
+    /// The word that is declared at a place, or nothing.
+    pub fn word_at(&self, place: usize) -> &'a str {
+        match self.entries.get(place) {
+            Some(entry) => entry.word,
+            None => "",
         }
-        Ok(())
+    }
+
+    /// The place of a word.
+    fn place_of(&self, word: &str) -> Option<usize> {
+        self.words.get_index_of(word)
+    }
+
+    /// What is declared of a word.
+    pub fn get(&self, word: &str) -> Option<Entry<'a>> {
+        match self.words.get_index_of(word) {
+            Some(place) => self.entries.get(place).copied(),
+            None => None,
+        }
+    }
+
+    /// Adds a word, and tells whether there was memory for it.
+    fn add(&mut self, entry: Entry<'a>) -> bool {
+        match self.words.insert(entry.word) {
+            Ok(true) => self.entries.push(entry).is_ok(),
+            Ok(false) => true,
+            Err(_) => false,
+        }
     }
 }
 
@@ -94,22 +105,22 @@ impl<'a> Words<'a> {
 
     /// What is declared of a word of a space.
     pub fn entry(&self, space: Space, word: &str) -> Option<Entry<'a>> {
-        match self.table(space).get(word) {
-            Some((_, entry)) => Some(entry),
-            None => None,
-        }
+        self.table(space).get(word)
     }
 
     /// The shape of a type that is one word.
     fn word_shape(&self, word: &str) -> Shape {
+        let Some(place) = self.types.place_of(word) else {
+            return Shape::Open;
+        };
         match self.types.get(word) {
-            Some((place, entry)) if entry.is_name => Shape::Name(place),
-            Some((place, _)) => Shape::Data(place),
-            None => Shape::Open,
+            Some(entry) if entry.is_name => Shape::Name(place),
+            _ => Shape::Data(place),
         }
     }
 
-    fn add(&mut self, space: Space, entry: Entry<'a>) -> Result<(), Memory> {
+    /// Adds a word, and tells whether there was memory for it.
+    fn add(&mut self, space: Space, entry: Entry<'a>) -> bool {
         match space {
             Space::Types => self.types.add(entry),
             Space::Constructors => self.constructors.add(entry),
@@ -126,34 +137,38 @@ pub struct Declared<'a> {
 }
 
 impl<'a> Declared<'a> {
+    /// Adds a word that an item declares, with the types of its arguments and its result. Tells whether there was memory
+    /// for it.
     fn declare(
         &mut self,
         alloc: Global,
         tokens: &[Token<'a>],
-        item: Range,
         space: Space,
-        at: usize,
-    ) -> Result<(), Memory> {
-        let untyped = Entry {
-            word: text_at(tokens, at),
-            item,
-            line: line_at(tokens, 0),
-            is_name: text_at(tokens, 2) == "name_type",
-            count: 0,
-            args: 0,
-            result: 0,
+        entry: Entry<'a>,
+    ) -> bool {
+        let typed = match space {
+            Space::Types => Ok(entry),
+            _ => self.typed(alloc, tokens, entry),
         };
-        let entry = match space {
-            Space::Types => untyped,
-            _ => self.typed(alloc, tokens, untyped)?,
-        };
-        self.words.add(space, entry)
+        match typed {
+            Ok(entry) => self.words.add(space, entry),
+            Err(Memory) => false,
+        }
     }
 
     /// Adds what an item declares, if anything.
     fn declare_item(&mut self, alloc: Global, part: &[Token<'a>], item: Range) {
         if let Some((space, at)) = declared_word(part) {
-            if self.declare(alloc, part, item, space, at).is_err() {
+            let entry = Entry {
+                word: text_at(part, at),
+                item,
+                line: line_at(part, 0),
+                is_name: text_at(part, 2) == "name_type",
+                count: 0,
+                args: 0,
+                result: 0,
+            };
+            if !self.declare(alloc, part, space, entry) {
                 self.types.lose();
             }
         }
@@ -184,9 +199,8 @@ impl<'a> Declared<'a> {
             let base = self.types.add_many(node.count, Shape::Open);
             let above = bases.get(node.parent).copied().unwrap_or(base);
             bases.push(base)?;
-            let own = above.saturating_add(node.rank);
-            if node.form != Form::Item {
-                self.type_node(tokens, *node, own, base);
+            if !matches!(node.form, Form::Item) {
+                self.type_node(tokens, *node, above.saturating_add(node.rank), base);
             }
         }
         Ok(bases)
@@ -225,7 +239,7 @@ pub fn tuple_shape(types: &mut Types, base: usize, count: usize) -> Shape {
 fn with_types<'a>(nodes: &[Node], bases: &[usize], entry: Entry<'a>) -> Entry<'a> {
     let whole = bases.first().copied().unwrap_or(0);
     let first = node_at(nodes, 1);
-    if first.form == Form::Predicate {
+    if matches!(first.form, Form::Predicate) {
         let args = bases.get(1).copied().unwrap_or(0);
         return Entry {
             count: first.count,
@@ -241,7 +255,7 @@ fn with_types<'a>(nodes: &[Node], bases: &[usize], entry: Entry<'a>) -> Entry<'a
             result: domain,
             ..entry
         },
-        Some(part) if part.form == Form::Tuple && part.count > 0 => Entry {
+        Some(part) if matches!(part.form, Form::Tuple) && part.count > 0 => Entry {
             count: part.count,
             args: bases.get(3).copied().unwrap_or(0),
             result,

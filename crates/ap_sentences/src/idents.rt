@@ -20,10 +20,10 @@ pub struct Ident {
 #[derive(Drop)]
 pub struct Idents<'a> {
     words: IndexSet<&'a str>,
-    // for each word the place of the identifier that no goal brings
-    free: Vec<usize>,
-    // for each node that brings an identifier the place of that and the node
-    brought: Vec<(usize, usize)>,
+    // for each word the identifier that no goal brings
+    free: Vec<Ident>,
+    // for each node that brings an identifier the node and that
+    brought: Vec<(usize, Ident)>,
     all: Vec<Ident>,
     whole: bool,
 }
@@ -51,27 +51,25 @@ impl<'a> Idents<'a> {
     }
 
     /// Adds one that has no other places, or that the goal of a node brings.
-    pub fn add(&mut self, ident: Ident) -> usize {
-        let place = self.all.len();
+    pub fn add(&mut self, ident: Ident) {
         if self.all.push(ident).is_err() {
             self.whole = false;
         }
-        place
     }
 
     /// Adds one that a goal brings.
     pub fn bring(&mut self, goal: usize, ident: Ident) {
-        let place = self.add(ident);
-        if self.brought.push((goal, place)).is_err() {
+        self.add(ident);
+        if self.brought.push((goal, ident)).is_err() {
             self.whole = false;
         }
     }
 
     /// Adds one that no goal brings.
     pub fn add_free(&mut self, word: &'a str, ident: Ident) {
-        let place = self.add(ident);
+        self.add(ident);
         let kept = match self.words.insert(word) {
-            Ok(true) => self.free.push(place).is_ok(),
+            Ok(true) => self.free.push(ident).is_ok(),
             Ok(false) => true,
             Err(_) => false,
         };
@@ -79,22 +77,19 @@ impl<'a> Idents<'a> {
     }
 
     /// The identifier that the goal of a node brings.
-    fn brought_by(&self, goal: usize) -> Option<Ident> {
-        let at = self.brought.binary_search_by_key(&goal, |pair| pair.0);
-        match at {
-            Ok(at) => {
-                let (_, place) = self.brought.get(at).copied()?;
-                self.all.get(place).copied()
-            }
+    fn brought_by(&self, goal: usize) -> Option<(usize, Ident)> {
+        match self.brought.binary_search_by_key(&goal, |pair| pair.0) {
+            Ok(at) => self.brought.get(at).copied(),
             Err(_) => None,
         }
     }
 
     /// The identifier of a word that no goal brings.
     fn free_of(&self, word: &str) -> Option<Ident> {
-        let number = self.words.get_index_of(word)?;
-        let place = self.free.get(number).copied()?;
-        self.all.get(place).copied()
+        match self.words.get_index_of(word) {
+            Some(number) => self.free.get(number).copied(),
+            None => None,
+        }
     }
 
     /// What a word at a node stands for, if it stood before.
@@ -106,7 +101,7 @@ impl<'a> Idents<'a> {
             let above = node_at(nodes, parent);
             let brings = matches!(above.form, Form::New | Form::Exists);
             if brings && text_at(tokens, above.first.saturating_add(1)) == word {
-                if let Some(ident) = self.brought_by(parent) {
+                if let Some((_, ident)) = self.brought_by(parent) {
                     return Some(ident);
                 }
             }

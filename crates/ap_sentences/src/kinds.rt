@@ -4,7 +4,7 @@ ghost use Rattle.std.specs.Prelude.{◌≡◌};
 use crate::closures::Question;
 use crate::declared::{Entry, Words};
 use crate::idents::Ident;
-use crate::subject::{Subject, say_declared, say_word};
+use crate::subject::{Subject, say_declared};
 use crate::types::{Shape, Types};
 use crate::typing::Typing;
 use crate::written::say_type;
@@ -17,14 +17,15 @@ use std::alloc::Global;
 /// Labels a variable or a name with what is known of its type.
 fn label_type(message: &mut Message, alloc: Global, typing: &Typing<'_, '_>, slot: usize) {
     match typing.slots.types.shape(slot) {
-        Shape::Open => message.label(&[Piece::Text("nothing is known of its type")]),
-        Shape::OpenName => message.label(&[Piece::Text(
+        Shape::Open => message.label("nothing is known of its type", &[]),
+        Shape::OpenName => message.label(
             "its type is a name type, of which there are several",
-        )]),
+            &[],
+        ),
         _ => {
-            message.label(&[Piece::Text("its type is `")]);
+            message.label("its type is `", &[]);
             say_type(message, alloc, &typing.words, &typing.slots.types, slot);
-            message.say(&[Piece::Text("`")]);
+            message.say("`", &[]);
         }
     }
 }
@@ -39,13 +40,13 @@ fn ident_message(
 ) -> Message {
     let token = node_at(nodes, ident.node).first;
     let mut message = Message::new(alloc, span_at(typing.tokens, token));
-    let kind = if ident.is_name {
-        " of the name `"
+    let said = if ident.is_name {
+        "@ of the name `@`"
     } else {
-        " of the variable `"
+        "@ of the variable `@`"
     };
-    message.say(&[Piece::Text(what), Piece::Text(kind)]);
-    say_word(&mut message, text_at(typing.tokens, token), "`");
+    let word = text_at(typing.tokens, token);
+    message.say(said, &[Piece::Text(what), Piece::Word(word)]);
     label_type(&mut message, alloc, typing, ident.slot);
     message
 }
@@ -53,7 +54,7 @@ fn ident_message(
 /// What is said where no variable or name is found to which it applies.
 fn vague_message(alloc: Global, typing: &Typing<'_, '_>, sentence: &str) -> Message {
     let mut message = Message::new(alloc, span_at(typing.tokens, 0));
-    message.say(&[Piece::Text(sentence)]);
+    message.say(sentence, &[]);
     message
 }
 
@@ -77,9 +78,10 @@ pub fn explain_open(
         Some(ident) => ident_message(alloc, typing, nodes, ident, "nothing fixes the type"),
         None => vague_message(alloc, typing, "nothing fixes the types of the item"),
     };
-    message.note(&[Piece::Text(
+    message.note(
         "types are found from the item alone: a predicate or constructor that it is an argument of fixes its type",
-    )]);
+        &[],
+    );
     Ok(message)
 }
 
@@ -103,12 +105,13 @@ fn note_constructors(
     if let Shape::Data(word) = typing.slots.types.shape(slot) {
         match constructor_of(&typing.words, &typing.slots.types, word) {
             Some(entry) => {
-                message.note(&[Piece::Text(
+                message.note(
                     "each constructor needs a term of a type without terms: ",
-                )]);
+                    &[],
+                );
                 say_declared(message, subject, entry);
             }
-            None => message.note(&[Piece::Text("it has no constructors before this item")]),
+            None => message.note("it has no constructors before this item", &[]),
         }
     }
 }
@@ -137,9 +140,10 @@ fn empty_message(
 ) -> Message {
     let mut message = ident_message(alloc, typing, nodes, ident, "no term has the type");
     note_constructors(&mut message, subject, typing, ident.slot);
-    message.note(&[Piece::Text(
+    message.note(
         "declare a constructor that needs no such term, in an item before",
-    )]);
+        &[],
+    );
     message
 }
 

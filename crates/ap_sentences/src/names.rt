@@ -2,7 +2,6 @@
 ghost use Rattle.std.specs.Prelude.{◌≡◌};
 
 use crate::closures::Question;
-use crate::subject::say_word;
 use crate::types::Shape;
 use crate::typing::Typing;
 use ap_defs::memory::Memory;
@@ -18,7 +17,7 @@ use std::alloc::Global;
 fn find_place(tokens: &[Token<'_>], nodes: &[Node], word: &str, above: Form) -> usize {
     for node in nodes {
         let is_place = node_at(nodes, node.parent).form == above && node.rank < 2;
-        let is_kind = node.form == Form::Binder || node.form == Form::Variable;
+        let is_kind = matches!(node.form, Form::Binder | Form::Variable);
         if is_place && is_kind && text_at(tokens, node.first) == word {
             return node.first;
         }
@@ -30,23 +29,18 @@ fn find_place(tokens: &[Token<'_>], nodes: &[Node], word: &str, above: Form) -> 
 pub fn explain_binder(alloc: Global, tokens: &[Token<'_>], nodes: &[Node], word: &str) -> Message {
     let token = find_place(tokens, nodes, word, Form::Abs);
     let mut message = Message::new(alloc, span_at(tokens, token));
-    message.say(&[
-        Piece::Text("left of `\\` stands a name, and `"),
-        Piece::Word(word),
-        Piece::Text("` is a variable"),
-    ]);
-    message.note(&[Piece::Text(
+    message.say(
+        "left of `\\` stands a name, and `@` is a variable",
+        &[Piece::Word(word)],
+    );
+    message.note(
         "a name is spelled with a small letter: `x\\t`; each name of a clause stands for any name that is different from its other names",
-    )]);
-    message.note(&[
-        Piece::Text("how it stands to `"),
-        Piece::Word(word),
-        Piece::Text("` is said by goals: `x # "),
-        Piece::Word(word),
-        Piece::Text("`, or `x = "),
-        Piece::Word(word),
-        Piece::Text("`"),
-    ]);
+        &[],
+    );
+    message.note(
+        "how it stands to `@` is said by goals: `x # @`, or `x = @`",
+        &[Piece::Word(word), Piece::Word(word), Piece::Word(word)],
+    );
     message
 }
 
@@ -54,12 +48,14 @@ pub fn explain_binder(alloc: Global, tokens: &[Token<'_>], nodes: &[Node], word:
 pub fn explain_swap(alloc: Global, tokens: &[Token<'_>], nodes: &[Node], word: &str) -> Message {
     let token = find_place(tokens, nodes, word, Form::Swap);
     let mut message = Message::new(alloc, span_at(tokens, token));
-    message.say(&[
-        Piece::Text("the first two parts of `swap` are names, and `"),
-        Piece::Word(word),
-        Piece::Text("` is a variable"),
-    ]);
-    message.note(&[Piece::Text("a name is spelled with a small letter: `swap(a, b, t)`")]);
+    message.say(
+        "the first two parts of `swap` are names, and `@` is a variable",
+        &[Piece::Word(word)],
+    );
+    message.note(
+        "a name is spelled with a small letter: `swap(a, b, t)`",
+        &[],
+    );
     message
 }
 
@@ -68,7 +64,7 @@ fn is_in_head(nodes: &[Node], place: usize) -> bool {
     let mut at = place;
     for _ in 0..LEVELS {
         let node = node_at(nodes, at);
-        if node.form == Form::Head {
+        if matches!(node.form, Form::Head) {
             return true;
         }
         if at == 0 {
@@ -88,7 +84,7 @@ fn is_bound(tokens: &[Token<'_>], nodes: &[Node], place: usize, word: &str) -> b
         }
         let parent = node_at(nodes, at).parent;
         let above = node_at(nodes, parent);
-        if above.form == Form::Abs && text_at(tokens, above.first) == word {
+        if matches!(above.form, Form::Abs) && text_at(tokens, above.first) == word {
             return true;
         }
         at = parent;
@@ -102,7 +98,7 @@ fn must_hold(nodes: &[Node], place: usize) -> bool {
     for _ in 0..LEVELS {
         let parent = node_at(nodes, at).parent;
         let above = node_at(nodes, parent);
-        if above.choice || (above.form != Form::Group && above.form != Form::Item) {
+        if above.choice || !matches!(above.form, Form::Group | Form::Item) {
             return false;
         }
         if parent == 0 {
@@ -116,8 +112,8 @@ fn must_hold(nodes: &[Node], place: usize) -> bool {
 /// Whether the node at a place is a goal that a name is fresh, and must hold.
 fn is_fresh_goal(tokens: &[Token<'_>], nodes: &[Node], place: usize, word: &str) -> bool {
     let left = node_at(nodes, place.saturating_add(1));
-    node_at(nodes, place).form == Form::Fresh
-        && left.form == Form::Word
+    matches!(node_at(nodes, place).form, Form::Fresh)
+        && matches!(left.form, Form::Word)
         && text_at(tokens, left.first) == word
         && must_hold(nodes, place)
 }
@@ -146,7 +142,7 @@ fn covered_by<'a>(
 ) -> Result<IndexSet<&'a str>, Memory> {
     let mut covered = IndexSet::new(alloc);
     for (place, node) in nodes.iter().enumerate() {
-        if node.form == Form::Variable && is_in_fresh_goal(tokens, nodes, place, name) {
+        if matches!(node.form, Form::Variable) && is_in_fresh_goal(tokens, nodes, place, name) {
             covered.insert(text_at(tokens, node.first))?;
         }
     }
@@ -156,8 +152,8 @@ fn covered_by<'a>(
 /// A name that stands free in a head itself.
 fn free_in_head(tokens: &[Token<'_>], nodes: &[Node], name: &str) -> Option<usize> {
     for (place, node) in nodes.iter().enumerate() {
-        let is_name = node.form == Form::Word && text_at(tokens, node.first) == name;
-        let is_call = node_at(nodes, node.parent).form == Form::Head;
+        let is_name = matches!(node.form, Form::Word) && text_at(tokens, node.first) == name;
+        let is_call = matches!(node_at(nodes, node.parent).form, Form::Head);
         if is_name
             && !is_call
             && is_in_head(nodes, place)
@@ -171,56 +167,63 @@ fn free_in_head(tokens: &[Token<'_>], nodes: &[Node], name: &str) -> Option<usiz
 
 /// Whether a node is a variable of a head that the binder of a name doesn't stand over.
 fn is_open(tokens: &[Token<'_>], nodes: &[Node], place: usize, name: &str) -> bool {
-    node_at(nodes, place).form == Form::Variable
+    matches!(node_at(nodes, place).form, Form::Variable)
         && is_in_head(nodes, place)
         && !is_bound(tokens, nodes, place, name)
 }
 
-/// The variables of a head that the binder of a name doesn't stand over, and for which no goal says that the name is
-/// fresh.
-fn open_variables(
-    alloc: Global,
-    tokens: &[Token<'_>],
-    nodes: &[Node],
-    name: &str,
-) -> Result<Vec<Node>, Memory> {
-    let covered = covered_by(alloc, tokens, nodes, name)?;
-    let mut open = Vec::new(alloc);
-    for (place, node) in nodes.iter().enumerate() {
-        if is_open(tokens, nodes, place, name) && !covered.contains(text_at(tokens, node.first)) {
-            open.push(*node)?;
-        }
-    }
-    Ok(open)
-}
-
-/// The token of the first of these variables whose type may hold a name of a name type.
-fn first_holding(
-    alloc: Global,
-    typing: &Typing<'_, '_>,
-    variables: &[Node],
-    name_type: usize,
-) -> Result<Option<usize>, Memory> {
-    let question = Question::HoldsName(name_type);
-    let answers = question.answers(alloc, &typing.words, &typing.slots.types)?;
-    first_of(alloc, typing, variables, question, answers.as_slice())
-}
-
-/// The token of the first of some variables for whose type the answer is yes.
+/// The token of the first variable of a head that the binder of a name doesn't stand over, for which no goal says that
+/// the name is fresh, and for whose type the answer is yes.
 fn first_of(
     alloc: Global,
     typing: &Typing<'_, '_>,
-    variables: &[Node],
-    question: Question,
-    answers: &[bool],
+    nodes: &[Node],
+    name: &str,
+    covered: &IndexSet<&str>,
+    asked: (Question, &[bool]),
 ) -> Result<Option<usize>, Memory> {
-    for node in variables {
-        let slot = typing.slots.slot_of(*node);
-        if question.answer(alloc, &typing.slots.types, answers, slot)? {
-            return Ok(Some(node.first));
+    let tokens = typing.tokens;
+    let (question, answers) = asked;
+    for (place, node) in nodes.iter().enumerate() {
+        if is_open(tokens, nodes, place, name) && !covered.contains(text_at(tokens, node.first)) {
+            let slot = typing.slots.slot_of(*node);
+            if question.answer(alloc, &typing.slots.types, answers, slot)? {
+                return Ok(Some(node.first));
+            }
         }
     }
     Ok(None)
+}
+
+/// The same, where the question is whether a type may hold the name.
+fn first_holding(
+    alloc: Global,
+    typing: &Typing<'_, '_>,
+    nodes: &[Node],
+    name: &str,
+    covered: &IndexSet<&str>,
+) -> Result<Option<usize>, Memory> {
+    let question = Question::HoldsName(type_of_name(typing, nodes, name));
+    let answers = question.answers(alloc, &typing.words, &typing.slots.types)?;
+    first_of(
+        alloc,
+        typing,
+        nodes,
+        name,
+        covered,
+        (question, answers.as_slice()),
+    )
+}
+
+/// The token of the first variable of a head through which a name may stand free in it.
+fn first_open(
+    alloc: Global,
+    typing: &Typing<'_, '_>,
+    nodes: &[Node],
+    name: &str,
+) -> Result<Option<usize>, Memory> {
+    let covered = covered_by(alloc, typing.tokens, nodes, name)?;
+    first_holding(alloc, typing, nodes, name, &covered)
 }
 
 /// The place of the name type of a name of an item.
@@ -239,15 +242,18 @@ fn type_of_name(typing: &Typing<'_, '_>, nodes: &[Node], name: &str) -> usize {
 /// What is said of a name that stands free in a head itself.
 fn free_message(alloc: Global, tokens: &[Token<'_>], token: usize, name: &str) -> Message {
     let mut message = Message::new(alloc, span_at(tokens, token));
-    message.say(&[
-        Piece::Text("the name `"),
-        Piece::Word(name),
-        Piece::Text("` stands free in the head of its clause"),
-    ]);
-    message.label(&[Piece::Text("a name, since no constructor of this spelling is declared")]);
-    message.note(&[Piece::Text(
+    message.say(
+        "the name `@` stands free in the head of its clause",
+        &[Piece::Word(name)],
+    );
+    message.label(
+        "a name, since no constructor of this spelling is declared",
+        &[],
+    );
+    message.note(
         "a name of a clause stands for any name, so a head can't tell one from another: write a variable, or declare a constructor",
-    )]);
+        &[],
+    );
     message
 }
 
@@ -256,29 +262,34 @@ const NO_FORMALITY: &str =
     "this is no formality: where the name is free in what the variable stands for, the clause would hold for one choice of the name and not for another, and the goal makes it fail there";
 
 /// Notes the goal to add.
-fn note_goal(message: &mut Message, name: &str, variable: &str) {
+fn note_goal<'x>(message: &mut Message, name: &'x str, variable: &'x str) {
     if variable == "_" {
-        message.note(&[Piece::Text("give `_` a spelling, as `T`, and add the goal `")]);
-        say_word(message, name, " # T`");
+        message.note(
+            "give `_` a spelling, as `T`, and add the goal `@ # T`",
+            &[Piece::Word(name)],
+        );
         return;
     }
-    message.note(&[Piece::Text("add the goal `")]);
-    say_word(message, name, " # ");
-    say_word(message, variable, "` to the body, under `,` alone");
-    message.note(&[Piece::Text(NO_FORMALITY)]);
+    message.note(
+        "add the goal `@ # @` to the body, under `,` alone",
+        &[Piece::Word(name), Piece::Word(variable)],
+    );
+    message.note(NO_FORMALITY, &[]);
 }
 
 /// What is said of a name that a variable of the head may hold.
-fn variable_message(alloc: Global, tokens: &[Token<'_>], token: usize, name: &str) -> Message {
+fn variable_message<'x>(
+    alloc: Global,
+    tokens: &[Token<'x>],
+    token: usize,
+    name: &'x str,
+) -> Message {
     let variable = text_at(tokens, token);
     let mut message = Message::new(alloc, span_at(tokens, token));
-    message.say(&[Piece::Text("the name `")]);
-    say_word(
-        &mut message,
-        name,
-        "` may stand free in the head, through `",
+    message.say(
+        "the name `@` may stand free in the head, through `@`",
+        &[Piece::Word(name), Piece::Word(variable)],
     );
-    say_word(&mut message, variable, "`");
     note_goal(&mut message, name, variable);
     message
 }
@@ -286,16 +297,14 @@ fn variable_message(alloc: Global, tokens: &[Token<'_>], token: usize, name: &st
 /// What is said of a name where no such variable is found.
 fn vague_message(alloc: Global, tokens: &[Token<'_>], name: &str) -> Message {
     let mut message = Message::new(alloc, span_at(tokens, 0));
-    message.say(&[
-        Piece::Text("the name `"),
-        Piece::Word(name),
-        Piece::Text("` isn't known to be fresh for the head of its clause"),
-    ]);
-    message.note(&[
-        Piece::Text("add goals `"),
-        Piece::Word(name),
-        Piece::Text(" # X` for the variables of the head, under `,` alone"),
-    ]);
+    message.say(
+        "the name `@` isn't known to be fresh for the head of its clause",
+        &[Piece::Word(name)],
+    );
+    message.note(
+        "add goals `@ # X` for the variables of the head, under `,` alone",
+        &[Piece::Word(name)],
+    );
     message
 }
 
@@ -313,10 +322,9 @@ pub fn explain_head(
     if let Some(token) = free_in_head(tokens, nodes, name) {
         return Ok(free_message(alloc, tokens, token, name));
     }
-    let variables = open_variables(alloc, tokens, nodes, name)?;
-    let name_type = type_of_name(typing, nodes, name);
-    match first_holding(alloc, typing, variables.as_slice(), name_type)? {
-        Some(token) => Ok(variable_message(alloc, tokens, token, name)),
-        None => Ok(vague_message(alloc, tokens, name)),
+    match first_open(alloc, typing, nodes, name) {
+        Ok(Some(token)) => Ok(variable_message(alloc, tokens, token, name)),
+        Ok(None) => Ok(vague_message(alloc, tokens, name)),
+        Err(Memory) => Err(Memory),
     }
 }

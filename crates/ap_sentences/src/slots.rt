@@ -103,7 +103,7 @@ impl Slots {
         let list = self.types.add(Shape::List(element));
         self.equate(place, own, list);
         let base = self.add_parts(node, Shape::Link(element));
-        if node.form == Form::ListTail {
+        if matches!(node.form, Form::ListTail) {
             let last = base.saturating_add(node.count.saturating_sub(1));
             self.types.set(last, Shape::Link(list));
         }

@@ -39,26 +39,26 @@ fn declaration<'t>(subject: Subject<'t, '_>, item: Range) -> &'t str {
     valid_front(bytes.get(..SHOWN).unwrap_or(bytes))
 }
 
-/// Says a word, and what stands behind it.
-pub fn say_word(message: &mut Message, word: &str, after: &'static str) {
-    message.say(&[Piece::Word(word), Piece::Text(after)]);
+/// Notes that another word may be meant.
+pub fn note_meant(message: &mut Message, word: &str) {
+    message.note("is `@` meant?", &[Piece::Word(word)]);
 }
 
 /// Says where a word is declared.
-pub fn say_declared(message: &mut Message, subject: Subject<'_, '_>, entry: Entry<'_>) {
-    message.say(&[
-        Piece::Text("`"),
-        Piece::Word(entry.word),
-        Piece::Text("` is declared in line "),
-        Piece::Number(entry.line),
-        Piece::Text(": `"),
-    ]);
-    say_word(message, declaration(subject, entry.item), "`");
+pub fn say_declared<'x>(message: &mut Message, subject: Subject<'x, '_>, entry: Entry<'x>) {
+    message.say(
+        "`@` is declared in line @: `@`",
+        &[
+            Piece::Word(entry.word),
+            Piece::Number(entry.line),
+            Piece::Word(declaration(subject, entry.item)),
+        ],
+    );
 }
 
 /// Notes where a word is declared.
 pub fn note_declared(message: &mut Message, subject: Subject<'_, '_>, entry: Entry<'_>) {
-    message.note(&[]);
+    message.note("", &[]);
     say_declared(message, subject, entry);
 }
 

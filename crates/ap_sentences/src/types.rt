@@ -1,8 +1,7 @@
 //! Types with parts that are not known yet, in a table in which each has a number.
 ghost use Rattle.std.specs.Prelude.{◌≡◌};
 
-use ap_defs::memory::Memory;
-use std::alloc::Global;
+use std::alloc::{AllocError, Global};
 
 /// What is known of a type.
 #[derive(Clone, Copy, PartialEq, Eq)]
@@ -22,7 +21,7 @@ pub enum Shape {
 }
 
 /// Which parts of a type are meant.
-#[derive(Clone, Copy, PartialEq, Eq)]
+#[derive(Clone, Copy)]
 pub enum Parts {
     All,
     /// Those that are no binder's.
@@ -64,7 +63,7 @@ fn is_open(shape: Shape) -> bool {
 
 /// Whether a type of which nothing but this is known may be that of the shape.
 fn may_become(open: Shape, shape: Shape) -> bool {
-    open == Shape::Open || is_open(shape) || matches!(shape, Shape::Name(_))
+    matches!(open, Shape::Open) || is_open(shape) || matches!(shape, Shape::Name(_))
 }
 
 /// Whether a type with this shape is known whole.
@@ -268,9 +267,14 @@ impl Types {
     }
 
     /// The numbers of a type and of its parts of a kind, from the outside in; of a very large type only a beginning.
-    pub fn parts(&self, alloc: Global, number: usize, kind: Parts) -> Result<Vec<usize>, Memory> {
+    pub fn parts(
+        &self,
+        alloc: Global,
+        number: usize,
+        kind: Parts,
+    ) -> Result<Vec<usize>, AllocError> {
         let mut parts = Vec::new(alloc);
-        parts.push(number)?;
+        parts.extend_from_slice(&[number])?;
         for at in 0..MOST_PARTS {
             let Some(next) = parts.get(at).copied() else {
                 break;
@@ -281,10 +285,10 @@ impl Types {
     }
 
     /// Whether a part of a type isn't known. Of a very large type only a beginning is seen.
-    pub fn is_open(&self, alloc: Global, number: usize) -> Result<bool, Memory> {
+    pub fn is_open(&self, alloc: Global, number: usize) -> Result<bool, AllocError> {
         let parts = self.parts(alloc, number, Parts::All)?;
         for part in &parts {
-            if matches!(self.shape(*part), Shape::Open | Shape::OpenName) {
+            if is_open(self.shape(*part)) {
                 return Ok(true);
             }
         }
@@ -292,27 +296,20 @@ impl Types {
     }
 
     /// Whether a type is a part of itself, or very large.
-    pub fn is_endless(&self, alloc: Global, number: usize) -> Result<bool, Memory> {
+    pub fn is_endless(&self, alloc: Global, number: usize) -> Result<bool, AllocError> {
         let parts = self.parts(alloc, number, Parts::All)?;
         Ok(parts.len() > MOST_PARTS)
     }
 }
 
 /// Adds the parts of a kind that a type with this shape has.
-fn add_parts(parts: &mut Vec<usize>, shape: Shape, kind: Parts) -> Result<(), Memory> {
-    match shape {
-        Shape::Pair(left, right) => {
-            parts.push(left)?;
-            parts.push(right)?;
+fn add_parts(parts: &mut Vec<usize>, shape: Shape, kind: Parts) -> Result<(), AllocError> {
+    match (shape, kind) {
+        (Shape::Pair(left, right), _) | (Shape::Abs(left, right), Parts::All) => {
+            parts.extend_from_slice(&[left, right])
         }
-        Shape::Abs(name, body) => {
-            if kind == Parts::All {
-                parts.push(name)?;
-            }
-            parts.push(body)?;
-        }
-        Shape::List(element) if kind != Parts::Needed => parts.push(element)?,
-        _ => {}
+        (Shape::Abs(_, body), _) => parts.extend_from_slice(&[body]),
+        (Shape::List(element), Parts::All | Parts::Inner) => parts.extend_from_slice(&[element]),
+        _ => Ok(()),
     }
-    Ok(())
 }

@@ -11,12 +11,23 @@ use ap_located::nodes::{Form, Node, node_at};
 use std::alloc::Global;
 
 /// An item with the types of its parts. Where memory is wanting for one, that is lost, and they are not whole.
-#[derive(Drop)]
 pub struct Typing<'t, 'a> {
     pub tokens: &'t [Token<'a>],
     pub words: Words<'a>,
     pub idents: Idents<'a>,
     pub slots: Slots,
+}
+
+// Written out, so that it is not written out at each exit of what owns a typing.
+impl Drop for Typing<'_, '_> {
+    fn drop(self) {
+        let Typing {
+            tokens: _,
+            words: _words,
+            idents: _idents,
+            slots: _slots,
+        } = self;
+    }
 }
 
 impl<'t, 'a> Typing<'t, 'a> {
@@ -33,7 +44,7 @@ impl<'t, 'a> Typing<'t, 'a> {
         if brought {
             self.idents.bring(node.parent, ident);
         } else if word == "_" {
-            let _place = self.idents.add(ident);
+            self.idents.add(ident);
         } else {
             self.idents.add_free(word, ident);
         }
@@ -44,7 +55,7 @@ impl<'t, 'a> Typing<'t, 'a> {
     fn type_ident(&mut self, place: usize, nodes: &[Node]) {
         let node = node_at(nodes, place);
         let above = node_at(nodes, node.parent).form;
-        let brought = node.form == Form::Binder && above != Form::Abs;
+        let brought = matches!(node.form, Form::Binder) && !matches!(above, Form::Abs);
         let known = if brought || text_at(self.tokens, node.first) == "_" {
             None
         } else {
@@ -92,7 +103,7 @@ impl<'t, 'a> Typing<'t, 'a> {
     /// Types the node at a place.
     fn type_node(&mut self, place: usize, nodes: &[Node]) {
         let node = node_at(nodes, place);
-        if node.form == Form::Apply {
+        if matches!(node.form, Form::Apply) {
             self.type_apply(place, nodes);
             return;
         }
@@ -139,14 +150,14 @@ fn open_shape(is_name: bool) -> Shape {
 }
 
 /// Whether a node of this form has goals as its parts.
-fn is_goal(form: Form) -> bool {
-    form == Form::Atom || form == Form::Head
+pub fn is_goal(form: Form) -> bool {
+    matches!(form, Form::Atom | Form::Head)
 }
 
 /// Whether a node stands where a name belongs.
 fn is_name_place(node: Node, nodes: &[Node]) -> bool {
     let above = node_at(nodes, node.parent).form;
-    node.form == Form::Binder || (above == Form::Swap && node.rank < 2)
+    matches!(node.form, Form::Binder) || (matches!(above, Form::Swap) && node.rank < 2)
 }
 
 /// The space of the word of an application: a predicate, where it is a call.

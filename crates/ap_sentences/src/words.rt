@@ -3,7 +3,8 @@ ghost use Rattle.std.specs.Prelude.{◌≡◌};
 
 use crate::declared::{Entry, Words};
 use crate::known::known_word;
-use crate::subject::{Subject, later_line, nearest_entry, note_declared, space_word};
+use crate::subject::{Subject, later_line, nearest_entry, note_declared, note_meant, space_word};
+use crate::typing::{applied_space, is_goal};
 use ap_defs::faults::TypeKind;
 use ap_lexer::Token;
 use ap_located::items::{Space, declared_word, span_at, text_at, tokens_in};
@@ -49,21 +50,19 @@ fn term_flaw<'a>(
     nodes: &[Node],
     node: Node,
 ) -> Option<WordFlaw<'a>> {
-    if node.form != Form::Word && node.form != Form::Apply {
+    let is_word = matches!(node.form, Form::Word);
+    if !is_word && !matches!(node.form, Form::Apply) {
         return None;
     }
-    let word = text_at(tokens, node.first);
     let above = node_at(nodes, node.parent).form;
-    if above == Form::Atom || above == Form::Head {
-        let entry = words.entry(Space::Predicates, word);
-        return application_flaw(entry, Space::Predicates, node);
-    }
-    let entry = words.entry(Space::Constructors, word);
-    let is_name = above == Form::Swap && node.rank < 2;
-    if node.form == Form::Word && (entry.is_none() || is_name) {
+    let is_call = is_goal(above);
+    let space = applied_space(is_call);
+    let entry = words.entry(space, text_at(tokens, node.first));
+    let is_name = matches!(above, Form::Swap) && node.rank < 2;
+    if is_word && !is_call && (entry.is_none() || is_name) {
         return None;
     }
-    application_flaw(entry, Space::Constructors, node)
+    application_flaw(entry, space, node)
 }
 
 /// What is wrong with a word in a declaration, if anything.
@@ -74,7 +73,8 @@ fn declaration_flaw<'a>(
     node: Node,
 ) -> Option<WordFlaw<'a>> {
     let word = text_at(tokens, node.first);
-    if node.form != Form::Word && node.form != Form::Binder {
+    let is_binder = matches!(node.form, Form::Binder);
+    if !is_binder && !matches!(node.form, Form::Word) {
         return None;
     }
     let is_result = node.parent == 0;
@@ -92,20 +92,19 @@ fn declaration_flaw<'a>(
     let result = is_result || is_constant(nodes, node);
     match entry {
         None => Some(flaw),
-        Some(found) if (node.form == Form::Binder && !found.is_name) || (result && found.is_name) =>
-            {
-                Some(WordFlaw {
-                    kind: TypeKind::Clash,
-                    ..flaw
-                })
-            }
+        Some(found) if (is_binder && !found.is_name) || (result && found.is_name) => {
+            Some(WordFlaw {
+                kind: TypeKind::Clash,
+                ..flaw
+            })
+        }
         Some(_) => None,
     }
 }
 
 /// Whether a node is the type of a constructor without arguments.
 fn is_constant(nodes: &[Node], node: Node) -> bool {
-    node_at(nodes, node.parent).form == Form::Domain && node_at(nodes, 0).count < 3
+    matches!(node_at(nodes, node.parent).form, Form::Domain) && node_at(nodes, 0).count < 3
 }
 
 /// What is wrong with the word that an item declares, if anything.
@@ -160,37 +159,32 @@ fn plural(count: usize) -> &'static str {
     }
 }
 
-/// Notes how a word is declared.
-fn note_how(message: &mut Message, flaw: WordFlaw<'_>, word: &str) {
-    message.note(&[Piece::Text("declare it in an item before")]);
-    if flaw.space == Space::Types {
-        message.say(&[
-            Piece::Text(": `"),
-            Piece::Word(word),
-            Piece::Text(" : type.` or `"),
-            Piece::Word(word),
-            Piece::Text(" : name_type.`"),
-        ]);
-        return;
-    }
-    if flaw.given > 0 {
-        message.say(&[
-            Piece::Text(", with the types of its "),
-            Piece::Number(flaw.given as u64),
-            Piece::Text(plural(flaw.given)),
-        ]);
-    }
-    let (begin, end) = form_of(flaw);
-    message.say(&[Piece::Text(begin), Piece::Word(word), Piece::Text(end)]);
+/// Notes how the word of a type is declared.
+fn note_type(message: &mut Message, word: &str) {
+    message.note(
+        "declare it in an item before: `@ : type.` or `@ : name_type.`",
+        &[Piece::Word(word), Piece::Word(word)],
+    );
 }
 
-/// What stands round the word in its declaration.
-fn form_of(flaw: WordFlaw<'_>) -> (&'static str, &'static str) {
-    match flaw.space {
-        Space::Predicates if flaw.given == 0 => (": `pred ", ".`"),
-        Space::Predicates => (": `pred ", "(..).`"),
-        _ => (": `", " : .. -> ..`"),
+/// Notes how a constructor or a predicate is declared.
+fn note_how(message: &mut Message, flaw: WordFlaw<'_>, word: &str) {
+    message.note("declare it in an item before", &[]);
+    if flaw.given > 0 {
+        message.say(
+            ", with the types of its @@",
+            &[
+                Piece::Number(flaw.given as u64),
+                Piece::Text(plural(flaw.given)),
+            ],
+        );
     }
+    let form = match flaw.space {
+        Space::Predicates if flaw.given == 0 => ": `pred @.`",
+        Space::Predicates => ": `pred @(..).`",
+        _ => ": `@ : .. -> ..`",
+    };
+    message.say(form, &[Piece::Word(word)]);
 }
 
 /// The space in which a word is declared that is looked for in another.
@@ -211,20 +205,17 @@ fn note_other<'a>(
     word: &'a str,
 ) -> bool {
     if let Some(near) = nearest_entry(words.table(flaw.space).entries(), word) {
-        message.note(&[
-            Piece::Text("is `"),
-            Piece::Word(near),
-            Piece::Text("` meant?"),
-        ]);
+        note_meant(message, near);
         return true;
     }
     if let Some(other) = other_space(words, flaw.space, word) {
-        message.note(&[
-            Piece::Text("it is declared as a "),
-            Piece::Text(space_word(other)),
-            Piece::Text(", and here stands a "),
-            Piece::Text(space_word(flaw.space)),
-        ]);
+        message.note(
+            "it is declared as a @, and here stands a @",
+            &[
+                Piece::Text(space_word(other)),
+                Piece::Text(space_word(flaw.space)),
+            ],
+        );
         return true;
     }
     false
@@ -239,16 +230,16 @@ fn note_way_out<'a>(
     word: &'a str,
 ) {
     if let Some(line) = later_line(subject, flaw.space, word) {
-        message.note(&[
-            Piece::Text("it is declared later, in line "),
-            Piece::Number(line),
-            Piece::Text("; an item sees what the items before it declare"),
-        ]);
+        message.note(
+            "it is declared later, in line @; an item sees what the items before it declare",
+            &[Piece::Number(line)],
+        );
         return;
     }
     match known_word(flaw.space, word) {
-        Some(known) => message.note(&[Piece::Text(known)]),
+        Some(known) => message.note(known, &[]),
         None if note_other(message, words, flaw, word) => {}
+        None if matches!(flaw.space, Space::Types) => note_type(message, word),
         None => note_how(message, flaw, word),
     }
 }
@@ -262,50 +253,41 @@ fn undeclared_message<'a>(
 ) -> Message {
     let word = text_at(tokens, flaw.token);
     let mut message = Message::new(alloc, span_at(tokens, flaw.token));
-    message.say(&[
-        Piece::Text("no "),
-        Piece::Text(space_word(flaw.space)),
-        Piece::Text(" `"),
-        Piece::Word(word),
-        Piece::Text("` is declared"),
-    ]);
+    message.say(
+        "no @ `@` is declared",
+        &[Piece::Text(space_word(flaw.space)), Piece::Word(word)],
+    );
     note_way_out(&mut message, subject, words, flaw, word);
     message
 }
 
 fn say_repeated(message: &mut Message, space: Space, word: &str) {
-    message.say(&[
-        Piece::Text("the "),
-        Piece::Text(space_word(space)),
-        Piece::Text(" `"),
-        Piece::Word(word),
-        Piece::Text("` is declared twice"),
-    ]);
-    message.label(&[Piece::Text("declared again here")]);
+    message.say(
+        "the @ `@` is declared twice",
+        &[Piece::Text(space_word(space)), Piece::Word(word)],
+    );
+    message.label("declared again here", &[]);
 }
 
 fn say_count(message: &mut Message, has: usize, given: usize, word: &str) {
-    message.say(&[
-        Piece::Text("`"),
-        Piece::Word(word),
-        Piece::Text("` has "),
-        Piece::Number(has as u64),
-        Piece::Text(plural(has)),
-        Piece::Text(" and is given "),
-        Piece::Number(given as u64),
-    ]);
+    message.say(
+        "`@` has @@ and is given @",
+        &[
+            Piece::Word(word),
+            Piece::Number(has as u64),
+            Piece::Text(plural(has)),
+            Piece::Number(given as u64),
+        ],
+    );
 }
 
 fn say_type_word(message: &mut Message, is_name: bool, word: &str) {
-    let (begin, end) = if is_name {
-        (
-            "the result of a constructor is of a data type, and `",
-            "` is a name type",
-        )
+    let said = if is_name {
+        "the result of a constructor is of a data type, and `@` is a name type"
     } else {
-        ("left of `\\` stands a name type, and `", "` is a data type")
+        "left of `\\` stands a name type, and `@` is a data type"
     };
-    message.say(&[Piece::Text(begin), Piece::Word(word), Piece::Text(end)]);
+    message.say(said, &[Piece::Word(word)]);
 }
 
 /// Says what is wrong with a word that is declared.
@@ -320,12 +302,14 @@ fn say_flaw(message: &mut Message, flaw: WordFlaw<'_>, entry: Entry<'_>) {
 /// Notes what else may help with it.
 fn note_flaw(message: &mut Message, flaw: WordFlaw<'_>, entry: Entry<'_>) {
     match flaw.kind {
-        TypeKind::Arity if entry.count == 1 && flaw.given > 1 => message.note(&[Piece::Text(
+        TypeKind::Arity if entry.count == 1 && flaw.given > 1 => message.note(
             "one argument that is a tuple is written in parentheses of its own: `f((t, u))`",
-        )]),
-        TypeKind::Clash if entry.is_name => message.note(&[Piece::Text(
+            &[],
+        ),
+        TypeKind::Clash if entry.is_name => message.note(
             "names aren't declared: each word that is no constructor is one",
-        )]),
+            &[],
+        ),
         _ => {}
     }
 }

@@ -3,9 +3,8 @@ ghost use Rattle.std.specs.Prelude.{◌≡◌};
 
 use crate::declared::Words;
 use crate::types::{Shape, Types};
-use ap_defs::memory::Memory;
 use ap_located::messages::{Message, Piece};
-use std::alloc::Global;
+use std::alloc::{AllocError, Global};
 
 /// A part of a type that is still to be written.
 #[derive(Clone, Copy)]
@@ -26,10 +25,10 @@ fn write_next(
     words: &Words<'_>,
     types: &Types,
     next: Rest,
-) -> Result<(), Memory> {
+) -> Result<(), AllocError> {
     match next {
         Rest::Sign(sign) => {
-            message.say(&[Piece::Text(sign)]);
+            message.say(sign, &[]);
             Ok(())
         }
         Rest::Type(part) => {
@@ -42,46 +41,39 @@ fn write_next(
 }
 
 /// The right part of a tuple.
-fn add_right(work: &mut Vec<Rest>, shape: Shape, part: usize) -> Result<(), Memory> {
-    if let Shape::Pair(left, right) = shape {
-        work.extend_from_slice(&[Rest::Right(right), Rest::Sign(", "), Rest::Type(left)])?;
+fn add_right(work: &mut Vec<Rest>, shape: Shape, part: usize) -> Result<(), AllocError> {
+    if let Shape::Pair(_, _) = shape {
+        add_parts(work, shape)
     } else {
-        work.extend_from_slice(&[Rest::Sign(")"), Rest::Type(part)])?;
+        work.extend_from_slice(&[Rest::Sign(")"), Rest::Type(part)])
     }
-    Ok(())
 }
 
 /// How a type begins.
 fn write_begin(message: &mut Message, words: &Words<'_>, shape: Shape) {
-    match shape {
-        Shape::Open | Shape::OpenName | Shape::Link(_) => message.say(&[Piece::Text("_")]),
-        Shape::Unit => message.say(&[Piece::Text("()")]),
-        Shape::Name(word) | Shape::Data(word) => {
-            if let Some(entry) = words.types.at(word) {
-                message.say(&[Piece::Word(entry.word)]);
-            }
-        }
-        Shape::Pair(_, _) => message.say(&[Piece::Text("(")]),
-        Shape::List(_) => message.say(&[Piece::Text("[")]),
-        Shape::Abs(_, _) => {}
-    }
+    let piece = match shape {
+        Shape::Open | Shape::OpenName | Shape::Link(_) => Piece::Text("_"),
+        Shape::Unit => Piece::Text("()"),
+        Shape::Name(word) | Shape::Data(word) => Piece::Word(words.types.word_at(word)),
+        Shape::Pair(_, _) => Piece::Text("("),
+        Shape::List(_) => Piece::Text("["),
+        Shape::Abs(_, _) => Piece::Text(""),
+    };
+    message.say("@", &[piece]);
 }
 
 /// How a type goes on.
-fn add_parts(work: &mut Vec<Rest>, shape: Shape) -> Result<(), Memory> {
+fn add_parts(work: &mut Vec<Rest>, shape: Shape) -> Result<(), AllocError> {
     match shape {
         Shape::Pair(left, right) => {
-            work.extend_from_slice(&[Rest::Right(right), Rest::Sign(", "), Rest::Type(left)])?;
+            work.extend_from_slice(&[Rest::Right(right), Rest::Sign(", "), Rest::Type(left)])
         }
-        Shape::List(element) => {
-            work.extend_from_slice(&[Rest::Sign("]"), Rest::Type(element)])?;
-        }
+        Shape::List(element) => work.extend_from_slice(&[Rest::Sign("]"), Rest::Type(element)]),
         Shape::Abs(name, body) => {
-            work.extend_from_slice(&[Rest::Type(body), Rest::Sign("\\"), Rest::Type(name)])?;
+            work.extend_from_slice(&[Rest::Type(body), Rest::Sign("\\"), Rest::Type(name)])
         }
-        _ => {}
+        _ => Ok(()),
     }
-    Ok(())
 }
 
 fn write_type(
@@ -90,16 +82,16 @@ fn write_type(
     words: &Words<'_>,
     types: &Types,
     number: usize,
-) -> Result<(), Memory> {
+) -> Result<(), AllocError> {
     let mut work = Vec::new(alloc);
-    work.push(Rest::Type(number))?;
+    work.extend_from_slice(&[Rest::Type(number)])?;
     for _ in 0..PARTS {
         let Some(next) = work.pop() else {
             return Ok(());
         };
         write_next(message, &mut work, words, types, next)?;
     }
-    message.say(&[Piece::Text("..")]);
+    message.say("..", &[]);
     Ok(())
 }
 
@@ -125,12 +117,12 @@ pub fn say_kind(
     number: usize,
 ) {
     match types.shape(number) {
-        Shape::OpenName => message.say(&[Piece::Text("a name type")]),
-        Shape::Open => message.say(&[Piece::Text("any type")]),
+        Shape::OpenName => message.say("a name type", &[]),
+        Shape::Open => message.say("any type", &[]),
         _ => {
-            message.say(&[Piece::Text("the type `")]);
+            message.say("the type `", &[]);
             say_type(message, alloc, words, types, number);
-            message.say(&[Piece::Text("`")]);
+            message.say("`", &[]);
         }
     }
 }
