@@ -13,7 +13,7 @@ use Rattle.ap_theory.proofs.SubstitutionLemmas.{applied_variables, put_substitut
 use Rattle.ap_theory.proofs.TerminationLemmas.{HasEnded, ending_ends}
 use Rattle.ap_theory.specs.StatementsOnConditions.{reduce_again}
 use Rattle.ap_rules.proofs.RunLemmas.{bound_in}
-use Rattle.ap_unify.specs.Parts.{IsAlike, IsReached, with_problems}
+use Rattle.ap_unify.specs.Parts.{ReducesAlike, IsReached, with_problems}
 
 under_none : (t : NominalTerm) → under [] t ≡ t
 under_none t = under_applied [] t ∙ applied_variables t
@@ -53,36 +53,36 @@ module _ (ps qs : List Problem) (h : reduce_all [] ps ≡ reduce_all [] qs) wher
   alike_more : (rs : List Problem) → reduce_all [] (ps ++ rs) ≡ reduce_all [] (qs ++ rs)
   alike_more rs = reduce_all-append [] ps rs ∙ ap (λ o. both o (reduce_all [] rs)) h ∙ sym (reduce_all-append [] qs rs)
 
-  by_rule_alike : (r : Rule) (es : List Equation) (s : List Binding) → IsAlike (apply_rule r es ps s) (apply_rule r es qs s)
+  by_rule_alike : (r : Rule) (es : List Equation) (s : List Binding) → ReducesAlike (apply_rule r es ps s) (apply_rule r es qs s)
   by_rule_alike (replace new rs) es s = (ps ++ rs, refl, alike_more rs)
   by_rule_alike (bind x v) es s = (map (put_problem x v) ps, refl, alike_put x v)
   by_rule_alike clash es s = refl
 
-  step_alike : (es : List Equation) (s : List Binding) → IsAlike (step_of es ps s) (step_of es qs s)
+  step_alike : (es : List Equation) (s : List Binding) → ReducesAlike (step_of es ps s) (step_of es qs s)
   step_alike [] s = refl
   step_alike ((t ≐ u) ∷ es) s = by_rule_alike (rule t u) es s
 
-pub alike_itself : (p : Progress) → IsAlike p p
+pub alike_itself : (p : Progress) → ReducesAlike p p
 alike_itself done = refl
 alike_itself failed = refl
 alike_itself (next s) = (s.problems, refl, refl)
 
-pub alike_on : (p q r : Progress) → IsAlike p q → IsAlike q r → IsAlike p r
-alike_on p q done h k = subst (IsAlike p) k h
-alike_on p q failed h k = subst (IsAlike p) k h
+pub alike_on : (p q r : Progress) → ReducesAlike p q → ReducesAlike q r → ReducesAlike p r
+alike_on p q done h k = subst (ReducesAlike p) k h
+alike_on p q failed h k = subst (ReducesAlike p) k h
 alike_on p q (next s) h (ps, e, k) =
-    let (qs, f, m) : IsAlike p (next (with_problems ps s)) = subst (IsAlike p) e h in
+    let (qs, f, m) : ReducesAlike p (next (with_problems ps s)) = subst (ReducesAlike p) e h in
     (qs, f, m ∙ k)
 
 -- steps from a stage whose problems reduce to the same
 pub reached_alike : (n : ℕ) (s : Stage) (ps : List Problem) (p : Progress) → reduce_all [] ps ≡ reduce_all [] s.problems → IsReached n s p
-    → (q : Progress) × IsReached n (with_problems ps s) q × IsAlike q p
+    → (q : Progress) × IsReached n (with_problems ps s) q × ReducesAlike q p
 reached_alike zero s ps p h e =
     let q = step (with_problems ps s) in
-    (q, refl, subst (IsAlike q) e (step_alike ps s.problems h s.equations s.bindings))
+    (q, refl, subst (ReducesAlike q) e (step_alike ps s.problems h s.equations s.bindings))
 reached_alike (suc n) s ps p h (r, e, k) =
     let q = step (with_problems ps s) in
-    let (qs, f, m) : IsAlike q (next r) = subst (IsAlike q) e (step_alike ps s.problems h s.equations s.bindings) in
+    let (qs, f, m) : ReducesAlike q (next r) = subst (ReducesAlike q) e (step_alike ps s.problems h s.equations s.bindings) in
     let (o, i, j) = reached_alike n r qs p m k in
     (o, (with_problems qs r, f, i), j)
 

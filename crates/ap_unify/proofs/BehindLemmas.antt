@@ -13,7 +13,7 @@ use Rattle.ap_theory.proofs.VariableLemmas.{EachEquation, each_equation-append, 
 use Rattle.ap_theory.specs.Variables.{EachVar, IsIdempotent, IsUnbound, is_bound}
 use Rattle.ap_unify.proofs.ReachLemmas.{leads_ending, leads_failed}
 use Rattle.ap_rules.proofs.RunLemmas.{bound_in, equations_put}
-use Rattle.ap_unify.specs.Parts.{IsAlike, IsReached, LeadsTo}
+use Rattle.ap_unify.specs.Parts.{ReducesAlike, IsReached, LeadsTo}
 use Rattle.ap_rules.specs.Runs.{equation_under, stage_under}
 
 module _ (x : Var) (v : NominalTerm) where
@@ -81,12 +81,12 @@ module _ (rest : List Equation) where
       let f : IsFine m = subst IsFineAfter e (fine_after s.equations s.problems s.bindings h) in
       (behind m, behind_step s.equations s.problems s.bindings (next m) h tt e, reached_behind n m p f d k)
 
-  behind_alike : (q p : Progress) → IsAlike q p → IsAlike (behind_after q) (behind_after p)
+  behind_alike : (q p : Progress) → ReducesAlike q p → ReducesAlike (behind_after q) (behind_after p)
   behind_alike q done h = ap behind_after h
   behind_alike q failed h = ap behind_after h
   behind_alike q (next s) (ps, e, h) = (ps, ap behind_after e, h)
 
-  alike_not_done : (q p : Progress) → IsAlike q p → IsNotDone p → IsNotDone q
+  alike_not_done : (q p : Progress) → ReducesAlike q p → IsNotDone p → IsNotDone q
   alike_not_done q done h d = absurd d
   alike_not_done q failed h d = subst IsNotDone (sym h) tt
   alike_not_done q (next s) (ps, e, h) d = subst IsNotDone (sym e) tt

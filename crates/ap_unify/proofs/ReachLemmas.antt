@@ -6,13 +6,13 @@ use Rattle.ap_defs.specs.Unification.{Progress, Stage, ending, failed, finish, n
 use Rattle.ap_theory.proofs.TerminationLemmas.{ending_failed, ending_next}
 use Rattle.ap_unify.proofs.AlikeLemmas.{alike_itself, alike_on, ending_alike, reached_alike, steps_alike, steps_to_end, steps_to_end_next}
 use Rattle.ap_rules.specs.Runs.{equation_under, problem_under, stage_under}
-use Rattle.ap_unify.specs.Parts.{IsAlike, IsReached, LeadsTo, Reaches, with_problems}
+use Rattle.ap_unify.specs.Parts.{ReducesAlike, IsReached, LeadsTo, Reaches, with_problems}
 
 pub leads_now : (s : Stage) (p : Progress) → step s ≡ p → LeadsTo s p
 leads_now s p e = (0, p, e, alike_itself p)
 
 -- by one step, where problems may be kept as others
-pub leads_about : (s : Stage) (q p : Progress) → step s ≡ q → IsAlike q p → LeadsTo s p
+pub leads_about : (s : Stage) (q p : Progress) → step s ≡ q → ReducesAlike q p → LeadsTo s p
 leads_about s q p e a = (0, q, e, a)
 
 reached_less : (n : ℕ) (s r : Stage) → IsReached n s (next r) → steps_to_end r < steps_to_end s
@@ -43,7 +43,7 @@ pub leads_failed : (s : Stage) → LeadsTo s failed → ending s ≡ unsolvable
 leads_failed s (n, q, h, e) = reached_failed n s (subst (IsReached n s) e h)
 
 -- one way on after another
-then_reached : (n m : ℕ) (s r : Stage) (q p : Progress) → IsReached n s (next r) → IsReached m r q → IsAlike q p → LeadsTo s p
+then_reached : (n m : ℕ) (s r : Stage) (q p : Progress) → IsReached n s (next r) → IsReached m r q → ReducesAlike q p → LeadsTo s p
 then_reached zero m s r q p e k a = (suc m, q, (r, e, k), a)
 then_reached (suc n) m s r q p (o, e, h) k a =
     let (j, x, i, b) = then_reached n m o r q p h k a in

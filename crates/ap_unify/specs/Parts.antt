@@ -149,13 +149,13 @@ abbrev pub with_problems : List Problem → Stage → Stage
 with_problems ps s = record { equations = s.equations; problems = ps; bindings = s.bindings }
 
 -- the same, but for problems that reduce to the same conditions
-abbrev pub IsAlike : Progress → Progress → Type 0
-IsAlike p (next s) = (ps : List Problem) × (p ≡ next (with_problems ps s)) × (reduce_all [] ps ≡ reduce_all [] s.problems)
-IsAlike p q = p ≡ q
+abbrev pub ReducesAlike : Progress → Progress → Type 0
+ReducesAlike p (next s) = (ps : List Problem) × (p ≡ next (with_problems ps s)) × (reduce_all [] ps ≡ reduce_all [] s.problems)
+ReducesAlike p q = p ≡ q
 
 -- by one step or several, where problems may be kept as others that reduce to the same
 abbrev pub LeadsTo : Stage → Progress → Type 0
-LeadsTo s p = (n : ℕ) × (q : Progress) × IsReached n s q × IsAlike q p
+LeadsTo s p = (n : ℕ) × (q : Progress) × IsReached n s q × ReducesAlike q p
 
 -- by no step, or by one or several
 abbrev pub Reaches : Stage → Progress → Type 0
