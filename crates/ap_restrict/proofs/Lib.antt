@@ -1,5 +1,6 @@
 pub mod PlaceLemmas
 pub mod CarryingLemmas
+pub mod OwnedLemmas
 pub mod KindLemmas
 pub mod TableLemmas
 pub mod HeadLemmas

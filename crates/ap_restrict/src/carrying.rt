@@ -213,7 +213,7 @@ fn carry_spine(alloc: Global, swaps: &Swaps, t: &Raw) -> Result<Term, Memory>
 
 /// A term with its swappings carried out, under none. A variable that stands where a name belongs is left out.
 #[tactic(auto, using(ap_theory::proofs::TermLemmas::act_term_none))]
-fn carry_term(alloc: Global, none: &Swaps, t: &Raw) -> Result<Term, Memory>
+pub(crate) fn carry_term(alloc: Global, none: &Swaps, t: &Raw) -> Result<Term, Memory>
     requires { none.now ≡ [] }
     ensures { IfOk result (λ u. term_of u ≡ carried_out (raw_of t.now)) }
 {
@@ -245,7 +245,7 @@ pub fn carry_terms(alloc: Global, ts: &[Raw]) -> Result<List<Term>, Memory>
 /// It goes on along what is right of `,` and `;` and inside `exists` and `new`, and calls itself on what
 /// is left of them alone.
 #[tactic(auto, using(ap_defs::proofs::SpineLemmas::goal_within_last))]
-fn goal_carried(alloc: Global, none: &Swaps, g: &Goal<Raw>) -> Result<Goal<Term>, Memory>
+pub(crate) fn goal_carried(alloc: Global, none: &Swaps, g: &Goal<Raw>) -> Result<Goal<Term>, Memory>
     requires { none.now ≡ [] }
     ensures { IfOk result (λ h. goal_of h ≡ map_goal carried_out (goal_over raw_of g.now)) }
 {

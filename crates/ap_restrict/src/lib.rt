@@ -5,6 +5,8 @@ mod carrying;
 pub mod errors;
 mod heads;
 mod items;
+mod owned;
+mod owned_goals;
 mod places;
 mod programs;
 pub mod restrict;

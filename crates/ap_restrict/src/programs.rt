@@ -9,9 +9,10 @@ ghost use Rattle.ap_program.specs.NameRestriction.{RawItem, clause as clause_ite
 ghost use Rattle.ap_restrict.specs.Heads.{AreTables};
 ghost use Rattle.ap_restrict.specs.Scans.{IsScan, earlier_of};
 
-use crate::carrying::{carry_goal, carry_terms};
 use crate::heads::Setting;
 use crate::items::{clause_fault, query_fault};
+use crate::owned::carry_own_terms;
+use crate::owned_goals::carry_own_goal;
 use crate::tables::make_tables;
 use ap_defs::faults::NameFault;
 use ap_defs::goals::{Clause, Program, Query, Signature};
@@ -124,8 +125,8 @@ fn carry_clause(alloc: Global, clause: Clause<Raw>) -> Result<Clause<Term>, Memo
         body,
         locals,
     } = clause;
-    let args = carry_terms(alloc, args.items())?;
-    let body = carry_goal(alloc, &body)?;
+    let args = carry_own_terms(alloc, args)?;
+    let body = carry_own_goal(alloc, body)?;
     Ok(Clause {
         item,
         line,
@@ -175,7 +176,7 @@ fn carry_query(alloc: Global, query: Query<Raw>) -> Result<Query<Term>, Memory>
         goal,
         locals,
     } = query;
-    let goal = carry_goal(alloc, &goal)?;
+    let goal = carry_own_goal(alloc, goal)?;
     Ok(Query {
         item,
         line,
