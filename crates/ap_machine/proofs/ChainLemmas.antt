@@ -19,20 +19,20 @@ use Rattle.ap_theory.proofs.SubstitutionLemmas.{under_act}
 use Rattle.ap_search.specs.Records.{closed_vars}
 use Rattle.ap_machine.specs.Chains.{IsRight}
 use Rattle.ap_machine.specs.declared.chains.Slot.{Slot}
-use Rattle.ap_machine.specs.Closed.{moved}
+use Rattle.ap_machine.specs.Closed.{canonically_moved}
 use Rattle.ap_machine.specs.Views.{state_in}
 use Rattle.ap_machine.proofs.AnswerLemmas.{closed_bound}
 
 -- swappings act on a term with canonical lists as on the term itself
-moved_canonical : (p : List Swap) (u : NominalTerm) → moved p (canonical_term u) ≡ moved p u
+moved_canonical : (p : List Swap) (u : NominalTerm) → canonically_moved p (canonical_term u) ≡ canonically_moved p u
 moved_canonical p u = same_canonical_term (act_same p p (λ a. refl) (canonical_term_same u))
 
 pub link_closes : (s : Store) (x y : Var) (p : List Swap) (t : NominalTerm) → raw_bound s x ≡ Some (susp p y) → t ≡ closed_term (state_in s) (susp [] y)
-    → moved p t ≡ closed_term (state_in s) (susp [] x)
+    → canonically_moved p t ≡ closed_term (state_in s) (susp [] x)
 link_closes s x y p t e h =
     let b = bindings_of s in
     let u = under b (susp [] y) in
-    ap (moved p) h ∙ moved_canonical p u ∙ ap canonical_term (sym (under_act b p (susp [] y)))
+    ap (canonically_moved p) h ∙ moved_canonical p u ∙ ap canonical_term (sym (under_act b p (susp [] y)))
     ∙ ap (λ q. canonical_term (under b (susp q y))) (append-nil p) ∙ closed_bound s x (susp p y) e
 
 first_right : (s : State) (ys : List Slot) (y : Slot) → All (IsRight s) (ys ++ y ∷ []) → All (IsRight s) ys × IsRight s y

@@ -4,7 +4,7 @@ ghost use Rattle.std.specs.Prelude.{◌≡◌, ◌<◌, ◌+◌, ◌*◌, IfOk};
 ghost use Rattle.ap_defs.specs.Terms.{term_of};
 ghost use Rattle.ap_defs.specs.Unification.{size};
 ghost use Rattle.ap_defs.specs.Walks.{term_in_frames, term_made, term_work, term_frames_work};
-ghost use Rattle.ap_machine.specs.Closed.{moved};
+ghost use Rattle.ap_machine.specs.Closed.{canonically_moved};
 
 use crate::closing::canonical_of;
 use ap_defs::lists::Swaps;
@@ -24,8 +24,8 @@ fn move_part<'a>(
     t: &'a Term,
 ) -> Result<TermPart<'a>, Memory>
     ensures same { IfOk result (λ p.
-        term_in_frames (moved swaps.now) frames.new.items (term_made (moved swaps.now) p)
-        ≡ term_in_frames (moved swaps.now) frames.old.items (moved swaps.now (term_of t.now))) }
+        term_in_frames (canonically_moved swaps.now) frames.new.items (term_made (canonically_moved swaps.now) p)
+        ≡ term_in_frames (canonically_moved swaps.now) frames.old.items (canonically_moved swaps.now (term_of t.now))) }
     ensures less { IfOk result (λ p. term_frames_work frames.new.items + term_work p
         < term_frames_work frames.old.items + 3 * size (term_of t.now)) }
 {
@@ -60,7 +60,7 @@ fn move_part<'a>(
 /// What swappings make of a term, with canonical lists.
 #[tactic(auto, using(ap_defs::proofs::WalkLemmas::term_frames_last, ap_defs::proofs::WalkLemmas::term_work_last))]
 pub fn moved_term(alloc: Global, swaps: &[Swap], t: &Term) -> Result<Term, Memory>
-    ensures { IfOk result (λ u. term_of u ≡ moved swaps.now (term_of t.now)) }
+    ensures { IfOk result (λ u. term_of u ≡ canonically_moved swaps.now (term_of t.now)) }
 {
     let mut frames = Vec::new(alloc);
     let mut part = TermPart::Left(t);
