@@ -251,28 +251,6 @@ fn close_along(
     Ok(())
 }
 
-/// The variable at a place is made, behind those on which it hangs.
-fn close_from(
-    alloc: Global,
-    store: &Store<'_>,
-    none: &Swaps,
-    slots: &mut Vec<ToClose>,
-    place: usize,
-) -> Result<(), Memory>
-    requires none { none.now ≡ [] }
-    requires inside { place < length slots.old.items }
-    requires right { All (IsRight (state_in store.now)) slots.old.items }
-    ensures right { OnOk result (All (IsRight (state_in store.now)) slots.new.items) }
-    ensures vars { OnOk result (map (λ e. e.var) slots.new.items
-        ≡ map (λ e. e.var) slots.old.items) }
-{
-    if next_place(store, slots, slots[place].var).is_none() {
-        return close_at(alloc, store, none, slots, place);
-    }
-    let way = way_from(alloc, store, slots, place)?;
-    close_along(alloc, store, none, slots, way)
-}
-
 /// What the variable of a slot stands for, which is made or not.
 fn taken(alloc: Global, store: &Store<'_>, none: &Swaps, slot: ToClose) -> Result<Term, Memory>
     requires { none.now ≡ [] }
@@ -344,7 +322,8 @@ fn closed_in_order(
 {
     let mut slots = slots_of(alloc, vars)?;
     'closing: for place in 0..vars.len() {
-        close_from(alloc, store, none, &mut slots, place)?;
+        let way = way_from(alloc, store, &slots, place)?;
+        close_along(alloc, store, none, &mut slots, way)?;
     }
     all_taken(alloc, store, none, slots)
 }
