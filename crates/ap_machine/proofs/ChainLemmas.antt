@@ -18,24 +18,24 @@ use Rattle.ap_theory.proofs.SameTermLemmas.{act_same, canonical_term_same, same_
 use Rattle.ap_theory.proofs.SubstitutionLemmas.{under_act}
 use Rattle.ap_search.specs.Records.{closed_vars}
 use Rattle.ap_machine.specs.Chains.{IsRight}
-use Rattle.ap_machine.specs.declared.chains.Slot.{Slot}
-use Rattle.ap_machine.specs.Closed.{moved}
+use Rattle.ap_machine.specs.declared.chains.ToClose.{ToClose}
+use Rattle.ap_machine.specs.Closed.{canonically_moved}
 use Rattle.ap_machine.specs.Views.{state_in}
 use Rattle.ap_machine.proofs.AnswerLemmas.{closed_bound}
 
 -- swappings act on a term with canonical lists as on the term itself
-moved_canonical : (p : List Swap) (u : NominalTerm) → moved p (canonical_term u) ≡ moved p u
+moved_canonical : (p : List Swap) (u : NominalTerm) → canonically_moved p (canonical_term u) ≡ canonically_moved p u
 moved_canonical p u = same_canonical_term (act_same p p (λ a. refl) (canonical_term_same u))
 
 pub link_closes : (s : Store) (x y : Var) (p : List Swap) (t : NominalTerm) → raw_bound s x ≡ Some (susp p y) → t ≡ closed_term (state_in s) (susp [] y)
-    → moved p t ≡ closed_term (state_in s) (susp [] x)
+    → canonically_moved p t ≡ closed_term (state_in s) (susp [] x)
 link_closes s x y p t e h =
     let b = bindings_of s in
     let u = under b (susp [] y) in
-    ap (moved p) h ∙ moved_canonical p u ∙ ap canonical_term (sym (under_act b p (susp [] y)))
+    ap (canonically_moved p) h ∙ moved_canonical p u ∙ ap canonical_term (sym (under_act b p (susp [] y)))
     ∙ ap (λ q. canonical_term (under b (susp q y))) (append-nil p) ∙ closed_bound s x (susp p y) e
 
-first_right : (s : State) (ys : List Slot) (y : Slot) → All (IsRight s) (ys ++ y ∷ []) → All (IsRight s) ys × IsRight s y
+first_right : (s : State) (ys : List ToClose) (y : ToClose) → All (IsRight s) (ys ++ y ∷ []) → All (IsRight s) ys × IsRight s y
 first_right s ys y h =
     let long = length-append ys (y ∷ []) in (
       All-from_get_or (IsRight s) ys y (λ i l. subst (IsRight s) (get_or_append_left ys (y ∷ []) y i l) (All-get_or (IsRight s) (ys ++ y ∷ []) i y (omega (arith, l, long)) h)),
@@ -43,7 +43,7 @@ first_right s ys y h =
     )
 
 -- one more variable is taken
-pub one_taken : (s : State) (ys zs : List Slot) (y : Slot) (ts us : List Term) (t : Term) → zs ≡ ys ++ y ∷ [] → us ≡ ts ++ t ∷ []
+pub one_taken : (s : State) (ys zs : List ToClose) (y : ToClose) (ts us : List Term) (t : Term) → zs ≡ ys ++ y ∷ [] → us ≡ ts ++ t ∷ []
     → (All (IsRight s) ys → map term_of ts ≡ closed_vars s (map (λ e. e.var) ys)) → (IsRight s y → term_of t ≡ closed_term s (susp [] y.var))
     → All (IsRight s) zs → map term_of us ≡ closed_vars s (map (λ e. e.var) zs)
 one_taken s ys zs y ts us t z u before one right =

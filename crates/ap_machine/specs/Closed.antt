@@ -45,5 +45,5 @@ rounds_work s [] = 0
 rounds_work s (r ∷ rs) = round_work s r + rounds_work s rs
 
 -- what swappings make of a term, with canonical lists
-abbrev pub moved : List Swap → NominalTerm → NominalTerm
-moved p t = canonical_term (act_term p t)
+abbrev pub canonically_moved : List Swap → NominalTerm → NominalTerm
+canonically_moved p t = canonical_term (act_term p t)

@@ -23,26 +23,26 @@ use std::alloc::Global;
 
 /// A variable, with what it stands for once that is made.
 #[derive(Drop)]
-pub struct Slot {
+pub(crate) struct ToClose {
     pub var: Var,
     pub term: Option<Term>,
 }
 
 /// A variable on which swappings wait.
 #[derive(Drop)]
-pub struct Waiting {
+pub(crate) struct Waiting {
     pub swaps: Vec<Swap>,
     pub var: Var,
 }
 
 /// The variables, none of them made.
-fn slots_of(alloc: Global, vars: &[Var]) -> Result<Vec<Slot>, Memory>
+fn slots_of(alloc: Global, vars: &[Var]) -> Result<Vec<ToClose>, Memory>
     ensures vars { IfOk result (λ v. map (λ e. e.var) v.items ≡ vars.now) }
     ensures right { (s : State) → IfOk result (λ v. All (IsRight s) v.items) }
 {
     let mut slots = Vec::with_capacity(alloc, vars.len())?;
     'listing: for x in vars {
-        slots.push(Slot {
+        slots.push(ToClose {
             var: *x,
             term: None,
         })?;
@@ -51,7 +51,7 @@ fn slots_of(alloc: Global, vars: &[Var]) -> Result<Vec<Slot>, Memory>
 }
 
 /// The first place from which on no variable has a lower number, where they ascend.
-fn lower_end(slots: &[Slot], x: Var) -> usize
+fn lower_end(slots: &[ToClose], x: Var) -> usize
     ensures { result ≤ length slots.now }
 {
     let mut low = 0;
@@ -68,9 +68,9 @@ fn lower_end(slots: &[Slot], x: Var) -> usize
 }
 
 /// The place of a variable, if it is there and they ascend.
-fn place_of(slots: &[Slot], x: Var) -> Option<usize>
+fn place_of(slots: &[ToClose], x: Var) -> Option<usize>
     ensures { IfSome result (λ i. (i < length slots.now)
-        × ((e : Slot) → (get_or slots.now i e).var ≡ x)) }
+        × ((e : ToClose) → (get_or slots.now i e).var ≡ x)) }
 {
     let place = lower_end(slots, x);
     if place < slots.len() && slots[place].var.num == x.num {
@@ -80,9 +80,11 @@ fn place_of(slots: &[Slot], x: Var) -> Option<usize>
     }
 }
 
-/// The variable to which one is bound, whatever waits on it.
+/// The variable to which one is bound, whatever waits on it. It says in which order variables are made, and so
+/// spares work alone.
 fn bound_to(store: &Store<'_>, x: Var) -> Option<Var> {
     let bound = store.binding(x)?;
+    // With its bound the number below is known to be one.
     let _end = bound.end;
     match bound.term {
         Term::Susp(_, y) => Some(Var {
@@ -133,7 +135,7 @@ fn closed_var<'a>(alloc: Global, store: &Store<'a>, none: &Swaps, x: Var) -> Res
 }
 
 /// What is made of a variable, if it is.
-fn made<'s>(slots: &'s [Slot], x: Var) -> Option<&'s Term>
+fn made<'s>(slots: &'s [ToClose], x: Var) -> Option<&'s Term>
     ensures { (s : State) → All (IsRight s) slots.now →
         IfSome result (λ t. term_of t.now ≡ closed_term s (susp [] x)) }
 {
@@ -150,7 +152,7 @@ fn closed_by(
     alloc: Global,
     store: &Store<'_>,
     none: &Swaps,
-    slots: &[Slot],
+    slots: &[ToClose],
     x: Var,
 ) -> Result<Term, Memory>
     requires none { none.now ≡ [] }
@@ -161,13 +163,13 @@ fn closed_by(
         return closed_var(alloc, store, none, x);
     };
     match made(slots, waiting.var) {
-        Some(t) => moved_term(alloc, &waiting.swaps, t),
+        Some(t) => moved_term(alloc, none, &waiting.swaps, t),
         None => closed_var(alloc, store, none, x),
     }
 }
 
 /// The place of the variable to which one is bound, if it is there and not made.
-fn next_place(store: &Store<'_>, slots: &[Slot], x: Var) -> Option<usize>
+fn next_place(store: &Store<'_>, slots: &[ToClose], x: Var) -> Option<usize>
     ensures { IfSome result (λ i. i < length slots.now) }
 {
     let y = bound_to(store, x)?;
@@ -183,7 +185,7 @@ fn next_place(store: &Store<'_>, slots: &[Slot], x: Var) -> Option<usize>
 fn way_from(
     alloc: Global,
     store: &Store<'_>,
-    slots: &[Slot],
+    slots: &[ToClose],
     place: usize,
 ) -> Result<Vec<usize>, Memory>
     requires { place < length slots.now }
@@ -206,7 +208,7 @@ fn close_at(
     alloc: Global,
     store: &Store<'_>,
     none: &Swaps,
-    slots: &mut Vec<Slot>,
+    slots: &mut Vec<ToClose>,
     place: usize,
 ) -> Result<(), Memory>
     requires none { none.now ≡ [] }
@@ -221,7 +223,7 @@ fn close_at(
     }
     let var = slots[place].var;
     let term = closed_by(alloc, store, none, slots, var)?;
-    slots[place] = Slot {
+    slots[place] = ToClose {
         var,
         term: Some(term),
     };
@@ -233,7 +235,7 @@ fn close_along(
     alloc: Global,
     store: &Store<'_>,
     none: &Swaps,
-    slots: &mut Vec<Slot>,
+    slots: &mut Vec<ToClose>,
     mut way: Vec<usize>,
 ) -> Result<(), Memory>
     requires none { none.now ≡ [] }
@@ -249,35 +251,13 @@ fn close_along(
     Ok(())
 }
 
-/// The variable at a place is made, behind those on which it hangs.
-fn close_from(
-    alloc: Global,
-    store: &Store<'_>,
-    none: &Swaps,
-    slots: &mut Vec<Slot>,
-    place: usize,
-) -> Result<(), Memory>
-    requires none { none.now ≡ [] }
-    requires inside { place < length slots.old.items }
-    requires right { All (IsRight (state_in store.now)) slots.old.items }
-    ensures right { OnOk result (All (IsRight (state_in store.now)) slots.new.items) }
-    ensures vars { OnOk result (map (λ e. e.var) slots.new.items
-        ≡ map (λ e. e.var) slots.old.items) }
-{
-    if next_place(store, slots, slots[place].var).is_none() {
-        return close_at(alloc, store, none, slots, place);
-    }
-    let way = way_from(alloc, store, slots, place)?;
-    close_along(alloc, store, none, slots, way)
-}
-
 /// What the variable of a slot stands for, which is made or not.
-fn taken(alloc: Global, store: &Store<'_>, none: &Swaps, slot: Slot) -> Result<Term, Memory>
+fn taken(alloc: Global, store: &Store<'_>, none: &Swaps, slot: ToClose) -> Result<Term, Memory>
     requires { none.now ≡ [] }
     ensures { IsRight (state_in store.now) slot → IfOk result (λ t. term_of t
         ≡ closed_term (state_in store.now) (susp [] slot.var)) }
 {
-    let Slot { var, term } = slot;
+    let ToClose { var, term } = slot;
     match term {
         Some(t) => Ok(t),
         None => closed_var(alloc, store, none, var),
@@ -289,7 +269,7 @@ fn all_taken(
     alloc: Global,
     store: &Store<'_>,
     none: &Swaps,
-    slots: Vec<Slot>,
+    slots: Vec<ToClose>,
 ) -> Result<Vec<Term>, Memory>
     requires none { none.now ≡ [] }
     requires right { All (IsRight (state_in store.now)) slots.items }
@@ -303,14 +283,59 @@ fn all_taken(
     Ok(terms)
 }
 
+/// Whether one of the variables is bound to a variable.
+fn are_linked(store: &Store<'_>, vars: &[Var]) -> bool {
+    for x in vars {
+        if bound_to(store, *x).is_some() {
+            return true;
+        }
+    }
+    false
+}
+
+/// What variables stand for, each made by itself.
+fn closed_each(
+    alloc: Global,
+    store: &Store<'_>,
+    none: &Swaps,
+    vars: &[Var],
+) -> Result<Vec<Term>, Memory>
+    requires { none.now ≡ [] }
+    ensures { IfOk result (λ v. map term_of v.items ≡ closed_vars (state_in store.now) vars.now) }
+{
+    let mut terms = Vec::new(alloc);
+    'closing: for x in vars {
+        terms.push(closed_var(alloc, store, none, *x)?)?;
+    }
+    Ok(terms)
+}
+
+/// What variables stand for, each made behind the one to which it is bound.
+fn closed_in_order(
+    alloc: Global,
+    store: &Store<'_>,
+    none: &Swaps,
+    vars: &[Var],
+) -> Result<Vec<Term>, Memory>
+    requires { none.now ≡ [] }
+    ensures { IfOk result (λ v. map term_of v.items ≡ closed_vars (state_in store.now) vars.now) }
+{
+    let mut slots = slots_of(alloc, vars)?;
+    'closing: for place in 0..vars.len() {
+        let way = way_from(alloc, store, &slots, place)?;
+        close_along(alloc, store, none, &mut slots, way)?;
+    }
+    all_taken(alloc, store, none, slots)
+}
+
 /// What variables stand for, with canonical lists. The variables ascend, else it takes longer.
-pub fn closed(alloc: Global, store: &Store<'_>, vars: &[Var]) -> Result<Vec<Term>, Memory>
+pub(crate) fn closed(alloc: Global, store: &Store<'_>, vars: &[Var]) -> Result<Vec<Term>, Memory>
     ensures { IfOk result (λ v. map term_of v.items ≡ closed_vars (state_in store.now) vars.now) }
 {
     let none = Swaps::none(alloc)?;
-    let mut slots = slots_of(alloc, vars)?;
-    'closing: for place in 0..vars.len() {
-        close_from(alloc, store, &none, &mut slots, place)?;
+    if are_linked(store, vars) {
+        closed_in_order(alloc, store, &none, vars)
+    } else {
+        closed_each(alloc, store, &none, vars)
     }
-    all_taken(alloc, store, &none, slots)
 }

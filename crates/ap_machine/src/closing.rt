@@ -53,7 +53,7 @@ pub(crate) fn canonical_of(alloc: Global, swaps: Vec<Swap>) -> Result<Vec<Swap>,
 }
 
 /// Swappings that wait. Where there are none, those that are given are shared, which are none either.
-fn waiting_of(alloc: Global, none: &Swaps, swaps: Vec<Swap>) -> Result<Swaps, Memory>
+pub(crate) fn waiting_of(alloc: Global, none: &Swaps, swaps: Vec<Swap>) -> Result<Swaps, Memory>
     requires { none.now ≡ [] }
     ensures { IfOk result (λ s. s ≡ swaps.items) }
 {

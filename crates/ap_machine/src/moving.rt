@@ -1,12 +1,12 @@
 //! Terms that swappings move, with canonical lists.
 
-ghost use Rattle.std.specs.Prelude.{◌≡◌, ◌<◌, ◌+◌, ◌*◌, IfOk};
+ghost use Rattle.std.specs.Prelude.{◌≡◌, [], ◌<◌, ◌+◌, ◌*◌, IfOk};
 ghost use Rattle.ap_defs.specs.Terms.{term_of};
 ghost use Rattle.ap_defs.specs.Unification.{size};
 ghost use Rattle.ap_defs.specs.Walks.{term_in_frames, term_made, term_work, term_frames_work};
-ghost use Rattle.ap_machine.specs.Closed.{moved};
+ghost use Rattle.ap_machine.specs.Closed.{canonically_moved};
 
-use crate::closing::canonical_of;
+use crate::closing::{canonical_of, waiting_of};
 use ap_defs::lists::Swaps;
 use ap_defs::memory::Memory;
 use ap_defs::spines::TermLayer;
@@ -19,13 +19,15 @@ use std::alloc::Global;
 /// Reads a part of a term that is moved: what stands round the next one is kept, unless this one has no parts.
 fn move_part<'a>(
     alloc: Global,
+    none: &Swaps,
     swaps: &[Swap],
     frames: &mut Vec<TermFrame<'a>>,
     t: &'a Term,
 ) -> Result<TermPart<'a>, Memory>
+    requires { none.now ≡ [] }
     ensures same { IfOk result (λ p.
-        term_in_frames (moved swaps.now) frames.new.items (term_made (moved swaps.now) p)
-        ≡ term_in_frames (moved swaps.now) frames.old.items (moved swaps.now (term_of t.now))) }
+        term_in_frames (canonically_moved swaps.now) frames.new.items (term_made (canonically_moved swaps.now) p)
+        ≡ term_in_frames (canonically_moved swaps.now) frames.old.items (canonically_moved swaps.now (term_of t.now))) }
     ensures less { IfOk result (λ p. term_frames_work frames.new.items + term_work p
         < term_frames_work frames.old.items + 3 * size (term_of t.now)) }
 {
@@ -35,7 +37,7 @@ fn move_part<'a>(
         Term::Susp(own, x) => {
             let all = joined(alloc, swaps, own.items())?;
             let waiting = canonical_of(alloc, all)?;
-            Ok(TermPart::Made(Term::Susp(Swaps::of(alloc, waiting)?, *x)))
+            Ok(TermPart::Made(Term::Susp(waiting_of(alloc, none, waiting)?, *x)))
         }
         Term::Pair(left, right) => {
             frames.push(TermFrame::Before(right))?;
@@ -57,16 +59,23 @@ fn move_part<'a>(
     }
 }
 
-/// What swappings make of a term, with canonical lists.
+/// What swappings make of a term, with canonical lists. Suspensions on which then none wait share the given ones,
+/// which are none.
 #[tactic(auto, using(ap_defs::proofs::WalkLemmas::term_frames_last, ap_defs::proofs::WalkLemmas::term_work_last))]
-pub fn moved_term(alloc: Global, swaps: &[Swap], t: &Term) -> Result<Term, Memory>
-    ensures { IfOk result (λ u. term_of u ≡ moved swaps.now (term_of t.now)) }
+pub(crate) fn moved_term(
+    alloc: Global,
+    none: &Swaps,
+    swaps: &[Swap],
+    t: &Term,
+) -> Result<Term, Memory>
+    requires { none.now ≡ [] }
+    ensures { IfOk result (λ u. term_of u ≡ canonically_moved swaps.now (term_of t.now)) }
 {
     let mut frames = Vec::new(alloc);
     let mut part = TermPart::Left(t);
     'moving: loop {
         match part {
-            TermPart::Left(t) => part = move_part(alloc, swaps, &mut frames, t)?,
+            TermPart::Left(t) => part = move_part(alloc, none, swaps, &mut frames, t)?,
             TermPart::Made(t) => match frames.pop() {
                 None => return Ok(t),
                 Some(frame) => part = leave_term(alloc, &mut frames, frame, t)?,

@@ -3,7 +3,7 @@ use Rattle.std.specs.Prelude.{IfSome, Some}
 use Rattle.std.proofs.lemmas.Result.{IfOk-weaker}
 use Rattle.ap_defs.specs.Terms.{susp, term_of}
 use Rattle.ap_store.specs.Views.{raw_bound}
-use Rattle.ap_machine.specs.Closed.{moved}
+use Rattle.ap_machine.specs.Closed.{canonically_moved}
 use Rattle.ap_machine.specs.Views.{state_in}
 use Rattle.ap_machine.specs.declared.chains.Waiting.{Waiting}
 use Rattle.ap_machine.proofs.ChainLemmas.{link_closes}

@@ -2,7 +2,7 @@ use Rattle.std.proofs.Common.{◌≡◌, map}
 use Rattle.std.specs.Prelude.{All}
 use Rattle.ap_machine.specs.Chains.{IsRight}
 use Rattle.ap_machine.specs.Views.{state_in}
-use Rattle.ap_machine.proofs.chains.closed.Given as goal
+use Rattle.ap_machine.proofs.chains.closed_in_order.Given as goal
 
 abbrev pub invariant-closing : goal.invariant-closing
 invariant-closing l = record {
