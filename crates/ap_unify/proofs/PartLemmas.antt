@@ -24,7 +24,7 @@ use Rattle.ap_theory.specs.Variables.{IsUnbound}
 use Rattle.ap_rules.proofs.RunLemmas.{bind_in_under, bound_in, dropped}
 use Rattle.ap_rules.proofs.SuspensionLemmas.{form_under, head_var_stays, rule_binds_left, rule_binds_right}
 use Rattle.ap_rules.proofs.WorkLemmas.{pairs_below-append, put_last}
-use Rattle.ap_unify.specs.Parts.{AreTurnMarksTrue, IsFurther, IsHead, IsMarkTrue, IsTurnBelow, PutsNothing, parts_equation}
+use Rattle.ap_unify.specs.Parts.{AreTurnMarksTrue, IsFurther, IsHead, IsMarkTrue, IsTurnBelow, PairReading, PutsNothing}
 use Rattle.ap_equations.specs.Plain.{plain_term}
 use Rattle.ap_rules.specs.Runs.{equation_under, problem_under, stage_under}
 use Rattle.ap_rules.specs.Work.{ArePairsBelow, IsPairBelow, pair_equation}
@@ -119,19 +119,19 @@ pub bind_if_absent : (x : Var) (t : NominalTerm) → occurs x t ≡ false → un
 bind_if_absent x t e = ap (λ v. if v then clash else bind x t) e
 
 -- a turn that puts nothing ahead
-pub nothing_below : (n : ℕ) (t : Turn) (f : Ahead) → PutsNothing t → IsTurnBelow parts_equation n t f
-nothing_below n turns.Clash f h = tt
-nothing_below n turns.Done f h = tt
-nothing_below n turns.On f h = absurd h
-nothing_below n turns.Both f h = absurd h
-nothing_below n turns.Other f h = absurd h
+pub nothing_below : (q : PairReading) (n : ℕ) (t : Turn) (f : Ahead) → PutsNothing t → IsTurnBelow q n t f
+nothing_below q n turns.Clash f h = tt
+nothing_below q n turns.Done f h = tt
+nothing_below q n turns.On f h = absurd h
+nothing_below q n turns.Both f h = absurd h
+nothing_below q n turns.Other f h = absurd h
 
 pub nothing_marked : (s : List Binding) (t : Turn) (f : Ahead) → PutsNothing t → AreTurnMarksTrue s t f
 nothing_marked s turns.Clash f h = tt
 nothing_marked s turns.Done f h = tt
 nothing_marked s turns.On f h = absurd h
 nothing_marked s turns.Both f h = absurd h
-nothing_marked s turns.Other f h = tt
+nothing_marked s turns.Other f h = absurd h
 
 -- what is not known to be ground
 pub unmarked : (s : List Binding) (p : Plain) → p.is_ground ≡ false → IsMarkTrue s p

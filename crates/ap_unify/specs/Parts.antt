@@ -109,6 +109,7 @@ IsTurnBelow q n _ f = Unit {0}
 abbrev pub AreTurnMarksTrue : List Binding → Turn → Ahead → Type 0
 AreTurnMarksTrue s turns.On f = AreMarksTrue s f.next
 AreTurnMarksTrue s turns.Both f = AreMarksTrue s f.next × AreMarksTrue s f.later
+AreTurnMarksTrue s turns.Other f = AreMarksTrue s f.next
 AreTurnMarksTrue s _ f = Unit {0}
 
 -- an equation that waits in front of those that are left, if there is one

@@ -7,7 +7,7 @@ ghost use Rattle.ap_equations.specs.Plain.{plain_term};
 ghost use Rattle.ap_rules.specs.Runs.{stage_under};
 ghost use Rattle.ap_rules.specs.Work.{equations_left, problems_met, progress_if};
 ghost use Rattle.ap_unify.specs.Moved.{binders_equation, moved_equation};
-ghost use Rattle.ap_unify.specs.Parts.{AreBelowBoth, IsEquationBelow, IsWayBelow, LeadsTo, progress_to, stage_with};
+ghost use Rattle.ap_unify.specs.Parts.{AreBelowBoth, AreMarksTrue, AreWayMarksTrue, IsEquationBelow, IsWayBelow, LeadsTo, progress_to, stage_with};
 
 use crate::fronts::{Front, Way};
 use crate::moved::Sides;
@@ -95,6 +95,8 @@ pub fn next_binders<'a>(
     ensures below { IfOk result (λ way. (n : ℕ) →
         IsEquationBelow n (binders_equation sides.old a b bodies.entry) →
         IsWayBelow (moved_equation sides.new) n way front.new) }
+    ensures marks { IfOk result (λ way. (s : List Binding) → AreMarksTrue s bodies.entry →
+        AreWayMarksTrue s way front.new) }
     ensures equations { work.new.equations.items ≡ work.old.equations.items }
     ensures taken { work.new.taken.items ≡ work.old.taken.items }
 {

@@ -1,21 +1,22 @@
 //! The rules for two parts of terms on which swappings wait, the same for all parts of a side.
 
-ghost use Rattle.std.specs.Prelude.{◌≡◌, ◌<◌, ◌+◌, ℕ, List as list, IfOk, OnOk};
+ghost use Rattle.std.specs.Prelude.{◌≡◌, ◌<◌, ◌+◌, ℕ, List as list, false, true, IfOk, OnOk};
 ghost use Rattle.ap_defs.specs.Permutations.{act_name, inverse, name_eq};
 ghost use Rattle.ap_defs.specs.Renaming.{AreSwapsBelow, IsBelow, rename_name};
-ghost use Rattle.ap_defs.specs.Substitution.{Binding, under};
+ghost use Rattle.ap_defs.specs.Substitution.{Binding, occurs, under};
 ghost use Rattle.ap_defs.specs.Terms.{act_term};
-ghost use Rattle.ap_defs.specs.Unification.{unless_occurs};
+ghost use Rattle.ap_defs.specs.Unification.{bind, unless_occurs};
 ghost use Rattle.ap_defs.specs.declared.terms.Swap.{Swap as swapping};
 ghost use Rattle.ap_equations.specs.Plain.{plain_term};
 ghost use Rattle.ap_perm.specs.Closures.{closure_term};
 ghost use Rattle.ap_rules.specs.Work.{GoOn};
 ghost use Rattle.ap_store.specs.Heads.{HasForm};
+ghost use Rattle.ap_store.specs.Marks.{HasNoVars};
 ghost use Rattle.ap_store.specs.Triples.{IsPrefixOf};
 ghost use Rattle.ap_store.specs.Views.{bindings_of, kinds, meaning_in, present, versions};
 ghost use Rattle.ap_theory.specs.Variables.{IsUnbound};
 ghost use Rattle.ap_unify.specs.Moved.{moved_equation};
-ghost use Rattle.ap_unify.specs.Parts.{AreBelowBoth, IsHead, IsRuleFor, IsTurnBelow, rule_of};
+ghost use Rattle.ap_unify.specs.Parts.{AreBelowBoth, AreMarksTrue, AreTurnMarksTrue, IsHead, IsMarkTrue, IsRuleFor, IsTurnBelow, PutsNothing, rule_of};
 ghost use Rattle.ap_unify.specs.declared.moved.Sides.{Sides};
 ghost use Rattle.ap_unify.specs.declared.parts.Ahead.{Ahead};
 
@@ -48,6 +49,8 @@ fn head_within<'a>(store: &Store<'a>, p: Plain<'a>) -> PartWithHead<'a>
     ensures below { (q : list swapping) →
         IsBelow (present store.now).next (act_term q (plain_term p.entry)) →
         IsBelow (present store.now).next (act_term q (plain_term result.part)) }
+    ensures mark { IsMarkTrue (bindings_of store.now) p.entry →
+        IsMarkTrue (bindings_of store.now) result.part }
     ensures head { IsHead (bindings_of store.now) (plain_term result.part) result.head }
 {
     match p.term {
@@ -110,6 +113,8 @@ fn moved_forms(sides: &Sides, ahead: &mut Ahead<'_>) -> Turn
         (rule_of (moved_equation sides.now) s ahead.old.next) }
     ensures below { (n : ℕ) → AreBelowBoth (moved_equation sides.now) n ahead.old.next →
         IsTurnBelow (moved_equation sides.now) n result ahead.new }
+    ensures marks { (s : list Binding) → AreMarksTrue s ahead.old.next →
+        AreTurnMarksTrue s result ahead.new }
 {
     let pair = ahead.next;
     let PlainPair { left, right } = pair;
@@ -158,8 +163,40 @@ fn moved_forms(sides: &Sides, ahead: &mut Ahead<'_>) -> Turn
     }
 }
 
+/// Binds an unbound variable to a closure in which it does not occur, and on which swappings act, the first
+/// outermost. It is marked where the closure is known to be ground.
+fn bind_moved<'a>(
+    alloc: Global,
+    store: &mut Store<'a>,
+    work: &mut Work<'a>,
+    p: &[Swap],
+    x: Var,
+    c: Closure<'a>,
+    is_ground: bool,
+) -> Result<Turn, Memory>
+    requires made { x.num < (present store.old).next }
+    requires unbound { IsUnbound (bindings_of store.old) x }
+    requires swaps { AreSwapsBelow (present store.old).next p.now }
+    requires below { IsBelow (present store.old).next (closure_term c) }
+    requires absent { occurs x (meaning_in store.old c) ≡ false }
+    requires no_vars { is_ground ≡ true → HasNoVars (meaning_in store.old c) }
+    ensures turn { IfOk result (λ turn. (m : Sides) (f : Ahead) →
+        IsRuleFor (moved_equation m) turn f (bindings_of store.old) (bindings_of store.new)
+        (bind x (act_term p.now (meaning_in store.old c.entry)))) }
+    ensures ahead { IfOk result PutsNothing }
+    ensures equations { work.new.equations.items ≡ work.old.equations.items }
+    ensures problems { work.new.problems.items ≡ work.old.problems.items }
+    ensures goes_on { OnOk result (GoOn (present store.old) work.old (present store.new) work.new) }
+    ensures past { IsPrefixOf (versions store.old) (versions store.new) }
+    ensures kinds { kinds store.new ≡ kinds store.old }
+{
+    let moved = c.moved_by(alloc, p)?;
+    bind_var(alloc, store, work, x, moved.settled(), is_ground)?;
+    Ok(Turn::Done)
+}
+
 /// Binds an unbound variable to a closure on which swappings act, the first outermost, unless it occurs there.
-/// They undo those that wait on the variable.
+/// They undo those that wait on the variable. A closure that is known to be ground needs no look.
 fn bind_back<'a>(
     alloc: Global,
     store: &mut Store<'a>,
@@ -167,30 +204,32 @@ fn bind_back<'a>(
     p: &[Swap],
     x: Var,
     c: Closure<'a>,
+    is_ground: bool,
 ) -> Result<Turn, Memory>
     requires made { x.num < (present store.old).next }
     requires unbound { IsUnbound (bindings_of store.old) x }
     requires swaps { AreSwapsBelow (present store.old).next p.now }
     requires below { IsBelow (present store.old).next (closure_term c) }
+    requires no_vars { is_ground ≡ true → HasNoVars (meaning_in store.old c) }
     ensures turn { IfOk result (λ turn. (m : Sides) (f : Ahead) →
         IsRuleFor (moved_equation m) turn f (bindings_of store.old) (bindings_of store.new)
         (unless_occurs x (meaning_in store.old c.entry)
         (act_term p.now (meaning_in store.old c.entry)))) }
-    ensures below { IfOk result (λ turn. (m : Sides) (f : Ahead) →
-        IsTurnBelow (moved_equation m) (present store.old).next turn f) }
+    ensures ahead { IfOk result PutsNothing }
     ensures equations { work.new.equations.items ≡ work.old.equations.items }
     ensures problems { work.new.problems.items ≡ work.old.problems.items }
     ensures goes_on { OnOk result (GoOn (present store.old) work.old (present store.new) work.new) }
     ensures past { IsPrefixOf (versions store.old) (versions store.new) }
     ensures kinds { kinds store.new ≡ kinds store.old }
 {
+    if is_ground {
+        return bind_moved(alloc, store, work, p, x, c, true);
+    }
     let found = store.occurs(alloc, x, &c)?;
     if found.occurs() {
         return Ok(Turn::Clash);
     }
-    let moved = c.moved_by(alloc, p)?;
-    bind_var(alloc, store, work, x, moved.settled(), found.is_ground())?;
-    Ok(Turn::Done)
+    bind_moved(alloc, store, work, p, x, c, found.is_ground())
 }
 
 /// The rule for the two parts that come next, with these heads, once bindings there are followed.
@@ -207,11 +246,14 @@ fn by_moved_heads<'a>(
     requires right { IsHead (bindings_of store.old) (plain_term ahead.old.next.right) right }
     requires below { AreBelowBoth (moved_equation sides.now) (present store.old).next
         ahead.old.next }
+    requires marks { AreMarksTrue (bindings_of store.old) ahead.old.next }
     ensures turn { IfOk result (λ turn. IsRuleFor (moved_equation sides.now) turn ahead.new
         (bindings_of store.old) (bindings_of store.new)
         (rule_of (moved_equation sides.now) (bindings_of store.old) ahead.old.next)) }
     ensures below { IfOk result (λ turn.
         IsTurnBelow (moved_equation sides.now) (present store.old).next turn ahead.new) }
+    ensures marks { IfOk result (λ turn.
+        AreTurnMarksTrue (bindings_of store.new) turn ahead.new) }
     ensures equations { work.new.equations.items ≡ work.old.equations.items }
     ensures problems { work.new.problems.items ≡ work.old.problems.items }
     ensures goes_on { OnOk result (GoOn (present store.old) work.old (present store.new) work.new) }
@@ -222,11 +264,27 @@ fn by_moved_heads<'a>(
         (Head::Form, Head::Form) => Ok(moved_forms(sides, ahead)),
         (Head::Free(x), Head::Form) => {
             let c = moved_closure(alloc, &sides.right, ahead.next.right)?;
-            bind_back(alloc, store, work, &sides.left, x, c)
+            bind_back(
+                alloc,
+                store,
+                work,
+                &sides.left,
+                x,
+                c,
+                ahead.next.right.is_ground,
+            )
         }
         (Head::Form, Head::Free(y)) => {
             let c = moved_closure(alloc, &sides.left, ahead.next.left)?;
-            bind_back(alloc, store, work, &sides.right, y, c)
+            bind_back(
+                alloc,
+                store,
+                work,
+                &sides.right,
+                y,
+                c,
+                ahead.next.left.is_ground,
+            )
         }
         _ => Ok(Turn::Other),
     }
@@ -243,11 +301,14 @@ pub fn step_moved<'a>(
 ) -> Result<Turn, Memory>
     requires below { AreBelowBoth (moved_equation sides.now) (present store.old).next
         ahead.old.next }
+    requires marks { AreMarksTrue (bindings_of store.old) ahead.old.next }
     ensures turn { IfOk result (λ turn. IsRuleFor (moved_equation sides.now) turn ahead.new
         (bindings_of store.old) (bindings_of store.new)
         (rule_of (moved_equation sides.now) (bindings_of store.old) ahead.old.next)) }
     ensures below { IfOk result (λ turn.
         IsTurnBelow (moved_equation sides.now) (present store.old).next turn ahead.new) }
+    ensures marks { IfOk result (λ turn.
+        AreTurnMarksTrue (bindings_of store.new) turn ahead.new) }
     ensures equations { work.new.equations.items ≡ work.old.equations.items }
     ensures problems { work.new.problems.items ≡ work.old.problems.items }
     ensures goes_on { OnOk result (GoOn (present store.old) work.old (present store.new) work.new) }

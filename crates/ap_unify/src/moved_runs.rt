@@ -1,6 +1,6 @@
 //! How a run goes on from an equation of closures on which swappings wait.
 
-ghost use Rattle.std.specs.Prelude.{◌≡◌, ◌∷◌, ◌++◌, ℕ, None, IfOk, OnOk};
+ghost use Rattle.std.specs.Prelude.{◌≡◌, ◌∷◌, ◌++◌, ℕ, None, false, IfOk, OnOk};
 ghost use Rattle.ap_defs.specs.Permutations.{inverse};
 ghost use Rattle.ap_defs.specs.Terms.{act_term};
 ghost use Rattle.ap_defs.specs.Unification.{step};
@@ -12,7 +12,7 @@ ghost use Rattle.ap_rules.specs.declared.pairs.Work.{Work};
 ghost use Rattle.ap_store.specs.Triples.{IsPrefixOf};
 ghost use Rattle.ap_store.specs.Views.{bindings_of, kinds, present, versions};
 ghost use Rattle.ap_unify.specs.Moved.{moved_equation};
-ghost use Rattle.ap_unify.specs.Parts.{AreBelowBoth, IsWaitingBelow, IsWayBelow, LeadsTo, progress_to, stage_of, stage_with, waiting_equations};
+ghost use Rattle.ap_unify.specs.Parts.{AreBelowBoth, AreMarksTrue, AreWaitingMarksTrue, AreWayMarksTrue, IsWaitingBelow, IsWayBelow, LeadsTo, progress_to, stage_of, stage_with, waiting_equations};
 
 use crate::binders::next_binders;
 use crate::fronts::{Front, Way, after_done};
@@ -94,12 +94,14 @@ fn other_moved<'a>(
 ) -> Result<Way, Memory>
     requires pair { AreBelowBoth (moved_equation sides.old) (present store.old).next
         front.old.ahead.next }
+    requires marks { AreMarksTrue (bindings_of store.old) front.old.ahead.next }
     requires none { front.old.waiting ≡ None }
     ensures stage { IfOk result (λ way. LeadsTo (stage_with (moved_equation sides.old)
         (bindings_of store.old) front.old.ahead.next work.old)
         (progress_to (moved_equation sides.new) way (bindings_of store.new) front.new work.new)) }
     ensures below { IfOk result (λ way.
         IsWayBelow (moved_equation sides.new) (present store.old).next way front.new) }
+    ensures marks { IfOk result (λ way. AreWayMarksTrue (bindings_of store.new) way front.new) }
     ensures goes_on { OnOk result (GoOn (present store.old) work.old (present store.new) work.new) }
     ensures past { IsPrefixOf (versions store.old) (versions store.new) }
     ensures kinds { kinds store.new ≡ kinds store.old }
@@ -138,11 +140,14 @@ fn next_moved<'a>(
         front.old.ahead.next }
     requires waiting { IsWaitingBelow (moved_equation sides.old) (present store.old).next
         front.old.waiting }
+    requires marks { AreMarksTrue (bindings_of store.old) front.old.ahead.next }
+    requires waiting_marks { AreWaitingMarksTrue (bindings_of store.old) front.old.waiting }
     ensures stage { IfOk result (λ way. LeadsTo (stage_of (moved_equation sides.old)
         (bindings_of store.old) front.old.ahead.next front.old.waiting work.old)
         (progress_to (moved_equation sides.new) way (bindings_of store.new) front.new work.new)) }
     ensures below { IfOk result (λ way.
         IsWayBelow (moved_equation sides.new) (present store.old).next way front.new) }
+    ensures marks { IfOk result (λ way. AreWayMarksTrue (bindings_of store.new) way front.new) }
     ensures goes_on { OnOk result (GoOn (present store.old) work.old (present store.new) work.new) }
     ensures past { IsPrefixOf (versions store.old) (versions store.new) }
     ensures kinds { kinds store.new ≡ kinds store.old }
@@ -166,7 +171,8 @@ fn next_moved<'a>(
 
 /// A closure, taken apart: the swappings that wait, the first innermost, and the part on which they do.
 fn apart<'a>(c: Closure<'a>) -> (Vec<Swap>, Plain<'a>)
-    ensures { act_term (inverse result.0.items) (plain_term result.1) ≡ closure_term c.entry }
+    ensures term { act_term (inverse result.0.items) (plain_term result.1) ≡ closure_term c.entry }
+    ensures mark { result.1.is_ground ≡ false }
 {
     let Closure {
         mut swaps,
@@ -193,7 +199,8 @@ fn along_moved<'a>(
     mut sides: Sides,
     first: PlainPair<'a>,
 ) -> Result<bool, Memory>
-    requires { AreBelowBoth (moved_equation sides) (present store.old).next first }
+    requires below { AreBelowBoth (moved_equation sides) (present store.old).next first }
+    requires marks { AreMarksTrue (bindings_of store.old) first }
     ensures stage { IfOk result (λ goes_on. LeadsTo (stage_with (moved_equation sides)
         (bindings_of store.old) first.entry work.old)
         (progress_if goes_on (work_stage (bindings_of store.new) work.new))) }

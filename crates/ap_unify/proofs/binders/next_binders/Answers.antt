@@ -6,7 +6,7 @@ use Rattle.ap_rules.specs.Runs.{stage_under}
 use Rattle.ap_rules.specs.Work.{equations_left, problems_met, progress_if}
 use Rattle.ap_unify.proofs.binders.next_binders.Goals as goal
 use Rattle.ap_unify.specs.Moved.{binders_equation, moved_equation}
-use Rattle.ap_unify.specs.Parts.{IsWaitingBelow, LeadsTo, stage_of, stage_with}
+use Rattle.ap_unify.specs.Parts.{AreWaitingMarksTrue, IsWaitingBelow, LeadsTo, stage_of, stage_with}
 
 pub returns-then-not-branch-clause-stage : goal.returns-then-not-branch-clause-stage
 returns-then-not-branch-clause-stage c = λ s.
@@ -27,3 +27,6 @@ returns-clause-stage c = λ s.
 pub returns-clause-below : goal.returns-clause-below
 returns-clause-below c = λ n h.
     (c.in_ok-by_binders.ensures.below n h, subst (IsWaitingBelow (moved_equation c.by_binders.new.sides) n) (sym c.requires.none) tt)
+
+pub returns-clause-marks : goal.returns-clause-marks
+returns-clause-marks c = λ s h. (h, subst (AreWaitingMarksTrue s) (sym c.requires.none) tt)

@@ -7,10 +7,11 @@ use Rattle.ap_defs.specs.Terms.{NominalTerm, act_term}
 use Rattle.ap_defs.specs.Unification.{unless_occurs}
 use Rattle.ap_defs.specs.declared.terms.Swap.{Swap}
 use Rattle.ap_equations.specs.Plain.{plain_term}
+use Rattle.ap_perm.specs.Closures.{closure_term}
 use Rattle.ap_rules.proofs.WorkLemmas.{if_ok}
 use Rattle.ap_store.specs.Views.{bindings_of, present}
-use Rattle.ap_unify.proofs.MovedLemmas.{act_form, back_swaps_below, free_made, moved_left, moved_right}
-use Rattle.ap_unify.proofs.PartLemmas.{head_form, head_free}
+use Rattle.ap_unify.proofs.MovedLemmas.{act_form, back_swaps_below, free_made, moved_ground, moved_left, moved_right}
+use Rattle.ap_unify.proofs.PartLemmas.{head_form, head_free, nothing_below, nothing_marked}
 use Rattle.ap_unify.proofs.moved.by_moved_heads.Goals as goal
 use Rattle.ap_unify.specs.Moved.{moved_equation}
 
@@ -24,6 +25,9 @@ moved_forms-requires-clause-right_form c =
 
 pub returns-in-Form-Form-clause-below : goal.returns-in-Form-Form-clause-below
 returns-in-Form-Form-clause-below c = c.moved_forms.ensures.below (present c.args.store.now).next c.requires.below
+
+pub returns-in-Form-Form-clause-marks : goal.returns-in-Form-Form-clause-marks
+returns-in-Form-Form-clause-marks c = c.moved_forms.ensures.marks (bindings_of c.args.store.now) c.requires.marks
 
 -- a variable on the left
 pub bind_back-requires-in-Free-Form-clause-made : goal.bind_back-requires-in-Free-Form-clause-made
@@ -66,7 +70,16 @@ returns-in_ok-c-in-Free-Form-clause-turn c =
     if_ok c.bind_back-in-Free-Form.result (λ turn h. subst (IsRuleFor (moved_equation m) turn c.args.ahead.now s (bindings_of c.bind_back-in-Free-Form.new.store)) e (h m c.args.ahead.now)) c.bind_back-in-Free-Form.ensures.turn
 
 pub returns-in_ok-c-in-Free-Form-clause-below : goal.returns-in_ok-c-in-Free-Form-clause-below
-returns-in_ok-c-in-Free-Form-clause-below c = if_ok c.bind_back-in-Free-Form.result (λ turn h. h c.args.sides.now c.args.ahead.now) c.bind_back-in-Free-Form.ensures.below
+returns-in_ok-c-in-Free-Form-clause-below c =
+    if_ok c.bind_back-in-Free-Form.result (λ turn h. nothing_below (moved_equation c.args.sides.now) (present c.args.store.now).next turn c.args.ahead.now h) c.bind_back-in-Free-Form.ensures.ahead
+
+pub returns-in_ok-c-in-Free-Form-clause-marks : goal.returns-in_ok-c-in-Free-Form-clause-marks
+returns-in_ok-c-in-Free-Form-clause-marks c =
+    if_ok c.bind_back-in-Free-Form.result (λ turn h. nothing_marked (bindings_of c.bind_back-in-Free-Form.new.store) turn c.args.ahead.now h) c.bind_back-in-Free-Form.ensures.ahead
+
+pub bind_back-requires-in-Free-Form-clause-no_vars : goal.bind_back-requires-in-Free-Form-clause-no_vars
+bind_back-requires-in-Free-Form-clause-no_vars c = λ g.
+    moved_ground (inverse c.deref-in-Free-Form.result.now) (plain_term c.args.ahead.now.next.right) (closure_term c.in_ok-c-in-Free-Form.c) c.in_ok-c-in-Free-Form.ensures (bindings_of c.args.store.now) (c.requires.marks.1 g)
 
 -- a variable on the right
 pub bind_back-requires-clause-made : goal.bind_back-requires-clause-made
@@ -109,4 +122,12 @@ returns-in_ok-c-in-Form-Free-clause-turn c =
     if_ok c.bind_back.result (λ turn h. subst (IsRuleFor (moved_equation m) turn c.args.ahead.now s (bindings_of c.bind_back.new.store)) e (h m c.args.ahead.now)) c.bind_back.ensures.turn
 
 pub returns-in_ok-c-in-Form-Free-clause-below : goal.returns-in_ok-c-in-Form-Free-clause-below
-returns-in_ok-c-in-Form-Free-clause-below c = if_ok c.bind_back.result (λ turn h. h c.args.sides.now c.args.ahead.now) c.bind_back.ensures.below
+returns-in_ok-c-in-Form-Free-clause-below c =
+    if_ok c.bind_back.result (λ turn h. nothing_below (moved_equation c.args.sides.now) (present c.args.store.now).next turn c.args.ahead.now h) c.bind_back.ensures.ahead
+
+pub returns-in_ok-c-in-Form-Free-clause-marks : goal.returns-in_ok-c-in-Form-Free-clause-marks
+returns-in_ok-c-in-Form-Free-clause-marks c = if_ok c.bind_back.result (λ turn h. nothing_marked (bindings_of c.bind_back.new.store) turn c.args.ahead.now h) c.bind_back.ensures.ahead
+
+pub bind_back-requires-clause-no_vars : goal.bind_back-requires-clause-no_vars
+bind_back-requires-clause-no_vars c = λ g.
+    moved_ground (inverse c.deref.result.now) (plain_term c.args.ahead.now.next.left) (closure_term c.in_ok-c-in-Form-Free.c) c.in_ok-c-in-Form-Free.ensures (bindings_of c.args.store.now) (c.requires.marks.0 g)

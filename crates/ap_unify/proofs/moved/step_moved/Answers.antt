@@ -13,6 +13,9 @@ pub by_moved_heads-requires-clause-below : goal.by_moved_heads-requires-clause-b
 by_moved_heads-requires-clause-below c =
     (c.head_within-left.ensures.below (inverse c.args.sides.now.left.items) c.requires.below.0, c.head_within-right.ensures.below (inverse c.args.sides.now.right.items) c.requires.below.1)
 
+pub by_moved_heads-requires-clause-marks : goal.by_moved_heads-requires-clause-marks
+by_moved_heads-requires-clause-marks c = (c.head_within-left.ensures.mark c.requires.marks.0, c.head_within-right.ensures.mark c.requires.marks.1)
+
 pub returns-clause-turn : goal.returns-clause-turn
 returns-clause-turn c =
     let s = bindings_of c.args.store.now in

@@ -4,8 +4,14 @@ use Rattle.ap_rules.proofs.WorkLemmas.{if_ok}
 use Rattle.ap_rules.specs.Runs.{stage_under}
 use Rattle.ap_rules.specs.Work.{equations_left, problems_met, progress_if, work_stage}
 use Rattle.ap_store.specs.Views.{bindings_of}
+use Rattle.ap_unify.proofs.PartLemmas.{unmarked}
 use Rattle.ap_unify.proofs.moved_runs.along_closures.Goals as goal
 use Rattle.ap_unify.specs.Parts.{LeadsTo}
+
+pub along_moved-requires-clause-marks : goal.along_moved-requires-clause-marks
+along_moved-requires-clause-marks c =
+    let s = bindings_of c.args.store.now in
+    (unmarked s c.apart-left_swaps.result.1 c.apart-left_swaps.ensures.mark, unmarked s c.apart-right_swaps.result.1 c.apart-right_swaps.ensures.mark)
 
 pub returns-clause-stage : goal.returns-clause-stage
 returns-clause-stage c =
@@ -13,5 +19,5 @@ returns-clause-stage c =
     let w = c.args.work.now in
     let last = work_stage (bindings_of c.along_moved.new.store) c.along_moved.new.work in
     if_ok c.along_moved.result
-    (λ goes_on h. subst (λ (e : Equation). LeadsTo (stage_under s (e ∷ equations_left w) (problems_met w)) (progress_if goes_on last)) (ap₂ ◌≐◌ c.apart-left_swaps.ensures c.apart-right_swaps.ensures) h)
+    (λ goes_on h. subst (λ (e : Equation). LeadsTo (stage_under s (e ∷ equations_left w) (problems_met w)) (progress_if goes_on last)) (ap₂ ◌≐◌ c.apart-left_swaps.ensures.term c.apart-right_swaps.ensures.term) h)
     c.along_moved.ensures.stage

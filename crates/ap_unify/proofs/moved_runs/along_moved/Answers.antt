@@ -5,7 +5,7 @@ use Rattle.ap_unify.proofs.ReachLemmas.{leads_less, then_reaches}
 use Rattle.ap_rules.proofs.WorkLemmas.{go_on_on, goes_on_on}
 use Rattle.ap_unify.proofs.moved_runs.along_moved.Goals as goal
 use Rattle.ap_unify.specs.Moved.{moved_equation}
-use Rattle.ap_unify.specs.Parts.{AreBelowBoth, IsWaitingBelow, IsWayBelow, LeadsTo, progress_to, stage_of}
+use Rattle.ap_unify.specs.Parts.{AreBelowBoth, AreWayMarksTrue, IsWaitingBelow, IsWayBelow, LeadsTo, progress_to, stage_of}
 use Rattle.ap_rules.specs.Work.{progress_if, work_stage}
 use Rattle.ap_unify.specs.declared.fronts.Way.TheVariants as ways
 
@@ -42,11 +42,14 @@ going-preserved c =
     let after = stage_of (moved_equation m) s f.ahead.next f.waiting w in
     let e : LeadsTo before (next after) = subst (λ x. LeadsTo before (progress_to (moved_equation m) x s f w)) c.in-On.is c.in_ok-goes_on.ensures.stage in
     let n = c.in_ok-goes_on.ensures.goes_on.next in
+    let marks : AreWayMarksTrue s ways.On f = subst (λ x. AreWayMarksTrue s x f) c.in-On.is c.in_ok-goes_on.ensures.marks in
     let below : IsWayBelow (moved_equation m) b.next ways.On f = subst (λ x. IsWayBelow (moved_equation m) b.next x f) c.in-On.is c.in_ok-goes_on.ensures.below in
     record {
       leads = λ p h. c.going.invariant.leads p (then_reaches before after p e (inr h));
       pair_below = subst (λ k. AreBelowBoth (moved_equation m) k f.ahead.next) (sym n) below.0;
       waiting_below = subst (λ k. IsWaitingBelow (moved_equation m) k f.waiting) (sym n) below.1;
+      pair_marks = marks.0;
+      waiting_marks = marks.1;
       goes_on = go_on_on a b d c.args.work.now c.going.work w c.going.invariant.goes_on c.in_ok-goes_on.ensures.goes_on;
       past = goes_on_on (versions c.args.store.now) (versions c.going.store) (versions c.next_moved.new.store) c.going.invariant.past c.next_moved.ensures.past;
       kinds = c.next_moved.ensures.kinds ∙ c.going.invariant.kinds;

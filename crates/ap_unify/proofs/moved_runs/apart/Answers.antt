@@ -6,8 +6,8 @@ use Rattle.ap_rules.proofs.MoveLemmas.{reverse_inverse}
 use Rattle.ap_unify.proofs.MovedLemmas.{inverse_twice}
 use Rattle.ap_unify.proofs.moved_runs.apart.Goals as goal
 
-pub returns : goal.returns
-returns c =
+pub returns-clause-term : goal.returns-clause-term
+returns-clause-term c =
     let t = rename_term c.args.c.base (term_of c.args.c.term.now) in
     let p = c.args.c.swaps.items in
     ap (λ q. act_term (inverse q) t) (c.reverse.ensures.items ∙ reverse_inverse p) ∙ ap (λ q. act_term q t) (inverse_twice p)

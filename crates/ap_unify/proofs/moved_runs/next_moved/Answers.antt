@@ -1,7 +1,7 @@
-use Rattle.ap_unify.specs.Parts.{AreBelowBoth, IsTurnBelow, IsWaitingBelow, IsWayBelow, LeadsTo, progress_to, stage_of}
+use Rattle.ap_unify.specs.Parts.{AreBelowBoth, AreTurnMarksTrue, IsTurnBelow, IsWaitingBelow, IsWayBelow, LeadsTo, progress_to, stage_of}
 use Rattle.std.proofs.Common.{subst, sym}
 use Rattle.ap_store.specs.Views.{bindings_of, present}
-use Rattle.ap_unify.proofs.WayLemmas.{both_way, clash_way, done_way, on_way, other_way}
+use Rattle.ap_unify.proofs.WayLemmas.{both_way, clash_way, done_way, on_way, other_way, waiting_stay}
 use Rattle.ap_fresh.proofs.StepLemmas.{on_ok}
 use Rattle.ap_rules.proofs.WorkLemmas.{go_on_on, go_same, if_ok}
 use Rattle.ap_unify.proofs.moved_runs.next_moved.Goals as goal
@@ -93,3 +93,23 @@ returns-in_ok-put_moved-in-Other-clause-goes_on c =
 pub returns-in_ok-put_moved-in-Other-clause-below : goal.returns-in_ok-put_moved-in-Other-clause-below
 returns-in_ok-put_moved-in-Other-clause-below c =
     if_ok c.other_moved.result (λ way. subst (λ n. IsWayBelow (moved_equation c.other_moved.new.sides) n way c.other_moved.new.front) c.in_ok-step_moved.ensures.goes_on.next) c.other_moved.ensures.below
+
+pub returns-in-Done-clause-marks : goal.returns-in-Done-clause-marks
+returns-in-Done-clause-marks c =
+    let r = bindings_of c.step_moved.new.store in
+    c.after_done.ensures.marks r (waiting_stay (bindings_of c.args.store.now) r c.in_ok-step_moved.ensures.goes_on.no_vars c.args.front.now.waiting c.requires.waiting_marks)
+
+pub returns-in-On-clause-marks : goal.returns-in-On-clause-marks
+returns-in-On-clause-marks c =
+    let r = bindings_of c.step_moved.new.store in (
+      subst (λ t. AreTurnMarksTrue r t c.step_moved.new.ahead) c.in-On.is c.in_ok-step_moved.ensures.marks,
+      waiting_stay (bindings_of c.args.store.now) r c.in_ok-step_moved.ensures.goes_on.no_vars c.args.front.now.waiting c.requires.waiting_marks,
+    )
+
+pub returns-in_ok-put_moved-in-Both-clause-marks : goal.returns-in_ok-put_moved-in-Both-clause-marks
+returns-in_ok-put_moved-in-Both-clause-marks c =
+    subst (λ t. AreTurnMarksTrue (bindings_of c.step_moved.new.store) t c.step_moved.new.ahead) c.in-Both.is c.in_ok-step_moved.ensures.marks
+
+pub other_moved-requires-clause-marks : goal.other_moved-requires-clause-marks
+other_moved-requires-clause-marks c =
+    subst (λ t. AreTurnMarksTrue (bindings_of c.step_moved.new.store) t c.step_moved.new.ahead) c.in-Other.is c.in_ok-step_moved.ensures.marks

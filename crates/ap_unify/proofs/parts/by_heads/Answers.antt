@@ -48,7 +48,7 @@ returns-in-Form-Form-clause-marks c = c.forms.ensures.marks (bindings_of c.args.
 
 pub returns-in-Form-Free-clause-below : goal.returns-in-Form-Free-clause-below
 returns-in-Form-Free-clause-below c =
-    if_ok c.bind_unless_occurs.result (λ turn h. nothing_below (present c.args.store.now).next turn c.args.ahead.now h) c.bind_unless_occurs.ensures.ahead
+    if_ok c.bind_unless_occurs.result (λ turn h. nothing_below parts_equation (present c.args.store.now).next turn c.args.ahead.now h) c.bind_unless_occurs.ensures.ahead
 
 pub returns-in-Form-Free-clause-marks : goal.returns-in-Form-Free-clause-marks
 returns-in-Form-Free-clause-marks c =
@@ -56,7 +56,7 @@ returns-in-Form-Free-clause-marks c =
 
 pub returns-in-Free-Form-clause-below : goal.returns-in-Free-Form-clause-below
 returns-in-Free-Form-clause-below c =
-    if_ok c.bind_unless_occurs-in-Free-Form.result (λ turn h. nothing_below (present c.args.store.now).next turn c.args.ahead.now h) c.bind_unless_occurs-in-Free-Form.ensures.ahead
+    if_ok c.bind_unless_occurs-in-Free-Form.result (λ turn h. nothing_below parts_equation (present c.args.store.now).next turn c.args.ahead.now h) c.bind_unless_occurs-in-Free-Form.ensures.ahead
 
 pub returns-in-Free-Form-clause-marks : goal.returns-in-Free-Form-clause-marks
 returns-in-Free-Form-clause-marks c =
@@ -66,7 +66,7 @@ pub returns-in-Free-Free-clause-turn : goal.returns-in-Free-Free-clause-turn
 returns-in-Free-Free-clause-turn c = if_ok c.variables.result (λ turn h. h c.args.ahead.now) c.variables.ensures.turn
 
 pub returns-in-Free-Free-clause-below : goal.returns-in-Free-Free-clause-below
-returns-in-Free-Free-clause-below c = if_ok c.variables.result (λ turn h. nothing_below (present c.args.store.now).next turn c.args.ahead.now h) c.variables.ensures.ahead
+returns-in-Free-Free-clause-below c = if_ok c.variables.result (λ turn h. nothing_below parts_equation (present c.args.store.now).next turn c.args.ahead.now h) c.variables.ensures.ahead
 
 pub returns-in-Free-Free-clause-marks : goal.returns-in-Free-Free-clause-marks
 returns-in-Free-Free-clause-marks c = if_ok c.variables.result (λ turn h. nothing_marked (bindings_of c.variables.new.store) turn c.args.ahead.now h) c.variables.ensures.ahead
