@@ -49,7 +49,8 @@ returns-clause-marks c =
 
 pub returns-clause-path : goal.returns-clause-path
 returns-clause-path c =
-    c.in_ok-standing-2.ensures.path ∙ ap (λ (p : Position). p.path ++ c.args.choice ∷ []) (c.in_ok-enter_clause.ensures.none c.if-branch.false).1
+    c.in_ok-standing-2.ensures.path ∙ ap (λ ps. ps.items ++ c.args.choice ∷ []) c.into_path.ensures
+    ∙ ap (λ (p : Position). p.path ++ c.args.choice ∷ []) (c.in_ok-enter_clause.ensures.none c.if-branch.false).1
 
 pub returns-clause-choosing : goal.returns-clause-choosing
 returns-clause-choosing c = c.in_ok-standing-2.ensures.choosing (program_in c.args.clauses.now)
