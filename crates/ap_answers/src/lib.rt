@@ -1,4 +1,4 @@
-//! The lines of a report.
+//! What is shown of an answer, with its parts lent, and the lines of a report.
 #![tactic(auto)]
 
 pub mod answers;

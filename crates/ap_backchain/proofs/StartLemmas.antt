@@ -1,5 +1,5 @@
 -- A machine that has gone back to where it had nothing.
-use Rattle.std.proofs.Common.{◌≡◌, ℕ, ◌≤◌, List, [], ◌∷◌, ◌++◌, refl, sym, ap, subst, length, arith}
+use Rattle.std.proofs.Common.{◌≡◌, ◌≤◌, List, [], ◌∷◌, ◌++◌, refl, sym, ap, subst, length, arith}
 use Rattle.std.specs.Prelude.{take}
 use Rattle.std.proofs.lemmas.List.{length-append}
 use Rattle.ap_store.specs.Changes.{Change, empty, past_after, present_after}

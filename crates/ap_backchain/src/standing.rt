@@ -25,7 +25,7 @@ fn failed_at<'a>(machine: Machine<'a>, made: usize) -> Standing<'a>
     ensures path { path_of_standing result ≡ take made machine.entry.path.items }
     ensures choosing { (program : Clauses) → IsChoosing program result }
 {
-    let mut path = machine.path;
+    let mut path = machine.into_path();
     path.truncate(made);
     Standing::Failed(path)
 }
@@ -52,7 +52,7 @@ pub fn advance<'a>(
         match choice_at(clauses, &here) {
             Some(width) => return Ok(Standing::Choosing(width, here)),
             None => match take_turn(alloc, clauses, locals, &mut here)? {
-                Turn::Ends(end) => return Ok(Standing::Ended(out_at(here.path, end))),
+                Turn::Ends(end) => return Ok(Standing::Ended(out_at(here.into_path(), end))),
                 Turn::Fails => return Ok(failed_at(here, made)),
                 Turn::Goes => {}
             },

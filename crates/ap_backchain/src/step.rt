@@ -78,7 +78,7 @@ fn choose_clause<'a>(
         let standing = advance(alloc, clauses, locals, here)?;
         Ok(standing)
     } else {
-        let standing = failed_after(here.path, choice)?;
+        let standing = failed_after(here.into_path(), choice)?;
         Ok(standing)
     }
 }

@@ -109,6 +109,18 @@ module _ (program : Clauses) (depth : ℕ) (q : NominalQuery) (path : List ℕ) 
         e ∙ ap (λ (x : Solved). derivation_in x.state l.traced.derivation) reached
         ∙ ap (λ (x : Traced). derivation_in x.state x.derivation) (same_some (traced_query program depth q path) l.traced r l.leads leads)
 
+-- What derives the goals that were solved along the path of a problem's query.
+module _ (p : Problem) (path : List ℕ) (q : NominalQuery) (asked : slice_get (queries_in p) (p.query - 1) ≡ Some q) (l : LeadsOn (clauses_in p) p.depth q path)
+    (same : Clauses) (here : Position) (same_program : same ≡ clauses_in p) (begins : here ≡ first_position p.depth q)
+    (s : State) (ns : List DerivationNode) (rest : List ℕ) (to : solved_at same path here ≡ Some (record { state = s; nodes = ns; rest = rest }))
+    (d : NominalDerivation) (h : (e : NominalDerivation) → ns ≡ nodes_before e [] → d ≡ derivation_in s e) where
+  pub path_derived : (x : NominalQuery) (r : Traced) → slice_get (queries_in p) (p.query - 1) ≡ Some x → traced_query (clauses_in p) p.depth x path ≡ Some r → d ≡ derivation_in r.state r.derivation
+  path_derived x r k leads =
+      let one : x ≡ q = same_some (slice_get (queries_in p) (p.query - 1)) x q k asked in
+      let nodes = path_nodes (clauses_in p) p.depth q path l same here same_program begins s ns rest to in
+      path_derivation (clauses_in p) p.depth q path l same here same_program begins s ns rest to d (h l.traced.derivation nodes) r
+      (subst (λ (y : NominalQuery). traced_query (clauses_in p) p.depth y path ≡ Some r) one leads)
+
 -- a property of each state that was found holds of one
 each_has : (P : State → NominalDerivation → Type 0) (os : List Output) (path : List ℕ) (s : State) (d : NominalDerivation) → EachFound P os → Finds os path s d → P s d
 each_has P [] path s d h f = absurd f

@@ -19,7 +19,7 @@ use ap_instance::ask;
 use ap_io::Gate;
 use ap_paths::Limit;
 use ap_program::restricted::Restricted;
-use ap_report::solve_without_paths;
+use ap_replay::solver::solve_without_paths;
 use std::alloc::Global;
 use std::sync::Wait;
 use std::thread::Threads;

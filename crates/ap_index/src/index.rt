@@ -16,10 +16,19 @@ use std::alloc::Global;
 use std::marker::Model;
 
 /// A restricted program with the keys of its clauses. Contracts see the program.
-#[derive(Drop)]
 pub struct Index<'a> {
     program: &'a Restricted,
     predicates: Vec<Predicate<'a>>,
+}
+
+// Written out, so that it is not written out at each exit of what owns an index.
+impl Drop for Index<'_> {
+    fn drop(self) {
+        let Index {
+            program: _,
+            predicates: _predicates,
+        } = self;
+    }
 }
 
 impl<'a> Model for Index<'a> {

@@ -21,7 +21,6 @@ use std::alloc::Global;
 /// variables that clauses and `exists` brought, in order and in ranges. The search goes on in place,
 /// and can go back to where it was at an earlier choice point. The memory of unification's work is kept
 /// from one to the next.
-#[derive(Drop)]
 pub struct Machine<'a> {
     pub store: Store<'a>,
     pub goals: GoalStack<'a>,
@@ -29,6 +28,19 @@ pub struct Machine<'a> {
     pub brought: Vec<Brought<'a>>,
     pub work: Work<'a>,
     pub ghost below: { AreWaitingBelow (present store).next (waiting_in goals) } by { waiting_prop (present store).next (waiting_in goals) },
+}
+
+// Written out, so that it is not written out at each exit of what owns a machine.
+impl Drop for Machine<'_> {
+    fn drop(self) {
+        let Machine {
+            store: _store,
+            goals: _goals,
+            path: _path,
+            brought: _brought,
+            work: _work,
+        } = self;
+    }
 }
 
 impl<'a> Machine<'a> {
@@ -125,6 +137,20 @@ impl<'a> Machine<'a> {
         ensures track { track_of self.new ≡ track_of self.old }
     {
         self.goals.pop()
+    }
+
+    /// The choices on the way to where the search stands, which goes on no more.
+    pub fn into_path(self) -> Vec<u32>
+        ensures { result ≡ self.entry.path }
+    {
+        let Machine {
+            store: _store,
+            goals: _goals,
+            path,
+            brought: _brought,
+            work: _work,
+        } = self;
+        path
     }
 
     /// How far the search has come. It takes no memory.

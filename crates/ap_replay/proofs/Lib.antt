@@ -2,3 +2,4 @@ pub mod BoundLemmas
 pub mod ReplayLemmas
 pub mod WholeLemmas
 pub mod Shared
+mod Kept

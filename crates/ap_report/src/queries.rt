@@ -5,7 +5,6 @@ ghost use Rattle.ap_answers.specs.Words.{IsTaken};
 ghost use Rattle.ap_backchain.specs.Problems.{HasQuery};
 ghost use Rattle.ap_report.specs.Queries.{limited_report, query_report};
 
-use crate::solver::search_beside;
 use ap_answers::printing::{lines_among, taken_in};
 use ap_answers::words::Taken;
 use ap_backchain::problem::{Problem, short_outputs};
@@ -15,6 +14,7 @@ use ap_defs::memory::Memory;
 use ap_index::index::Index;
 use ap_io::Gate;
 use ap_paths::Limit;
+use ap_replay::solver::search_beside;
 use ap_stream::{AtEnd, Search, report_of_runs, stream_report};
 use std::alloc::Global;
 use std::sync::Wait;

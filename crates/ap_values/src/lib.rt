@@ -1,6 +1,6 @@
-//! What the programs do without: permutations of names and what is shown of answers as values, clauses renamed
-//! apart, and freshness and equality of ground terms. `differing` tells at which places two lists of numbers differ,
-//! by vectors.
+//! What the programs do without: permutations of names, what is shown of answers and solutions of type equations
+//! as values, clauses renamed apart, and freshness and equality of ground terms. `differing` tells at which places
+//! two lists of numbers differ, by vectors.
 #![tactic(auto)]
 
 pub mod differing;

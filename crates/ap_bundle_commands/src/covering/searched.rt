@@ -11,7 +11,7 @@ use ap_defs::paths::Out;
 use ap_index::index::Index;
 use ap_io::Gate;
 use ap_paths::Limit;
-use ap_report::solve;
+use ap_replay::solver::solve;
 use std::alloc::Global;
 use std::sync::Wait;
 use std::thread::Threads;

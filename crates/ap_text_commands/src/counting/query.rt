@@ -18,7 +18,7 @@ use ap_defs::paths::{Out, Path};
 use ap_derive::counting::uses::{Question, uses};
 use ap_io::Gate;
 use ap_paths::Limit;
-use ap_report::solve;
+use ap_replay::solver::solve;
 use std::alloc::Global;
 use std::sync::Wait;
 use std::thread::Threads;

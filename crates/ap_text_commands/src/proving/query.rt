@@ -20,7 +20,7 @@ use ap_derive::assembling::Derived;
 use ap_derive::derivations::derive_along;
 use ap_io::Gate;
 use ap_paths::Limit;
-use ap_report::solve;
+use ap_replay::solver::solve;
 use ap_shared::arena::SharedTerms;
 use ap_shared::derivations::SharedProved;
 use ap_shared::sharing::share_answer;

@@ -14,7 +14,7 @@ use ap_defs::limits::Workers;
 use ap_defs::memory::Memory;
 use ap_io::Gate;
 use ap_paths::Limit;
-use ap_report::solve;
+use ap_replay::solver::solve;
 use std::alloc::Global;
 use std::sync::Wait;
 use std::thread::Threads;

@@ -1,4 +1,4 @@
-use Rattle.std.proofs.Common.{◌≡◌, ◌∙◌}
+use Rattle.std.proofs.Common.{◌∙◌}
 use Rattle.ap_backchain.proofs.CutLemmas.{cut_within, cut_waiting, cut_position}
 use Rattle.ap_backchain.proofs.letting_go.let_go_cells.Goals as goal
 

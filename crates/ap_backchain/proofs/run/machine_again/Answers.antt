@@ -4,10 +4,9 @@ use Rattle.ap_defs.specs.Goals.{NominalGoal, goal_of, query_of}
 use Rattle.ap_defs.specs.Renaming.{IsGoalBelow, rename_goal}
 use Rattle.ap_defs.specs.Resolution.{State, first_state, kinds_of}
 use Rattle.ap_defs.specs.Types.{local_of, locals_of}
-use Rattle.ap_search.specs.Continuations.{Waiting}
-use Rattle.ap_store.specs.Triples.{Triple, with_next}
+use Rattle.ap_store.specs.Triples.{Triple}
 use Rattle.ap_store.specs.Views.{kinds, present}
-use Rattle.ap_machine.specs.Machines.{next_of, position_of}
+use Rattle.ap_machine.specs.Machines.{position_of}
 use Rattle.ap_machine.specs.Positions.{Position, with_goal}
 use Rattle.ap_machine.specs.Views.{state_in}
 use Rattle.ap_turns.proofs.FitLemmas.{goal_zero}

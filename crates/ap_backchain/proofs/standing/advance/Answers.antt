@@ -3,6 +3,7 @@ use Rattle.ap_defs.specs.Answers.{out_of}
 use Rattle.ap_defs.specs.Goals.{program_in}
 use Rattle.ap_defs.specs.Types.{locals_of}
 use Rattle.ap_machine.specs.Machines.{position_of}
+use Rattle.ap_turns.specs.Ends.{end_out}
 use Rattle.ap_turns.specs.Turned.{turned_of}
 use Rattle.ap_machine.specs.Positions.{ends}
 use Rattle.ap_turns.specs.declared.turns.Turn.{Turn}
@@ -32,14 +33,14 @@ pub returns-in-Ends-clause-marks : goal.returns-in-Ends-clause-marks
 returns-in-Ends-clause-marks c =
     let program = program_in c.args.clauses.now in let ls = locals_of c.args.locals.now in
     let r = position_of c.take_turn.new.machine in
-    let e = ap ends c.out_at.ensures ∙ sym (ap (λ (t : Turn). turned_of t r) c.in-Ends.is) ∙ c.in_ok-end-in-None.ensures.turned in
+    let e = ap ends (c.out_at.ensures ∙ ap (λ ps. end_out ps.items c.in-Ends.end) c.into_path.ensures) ∙ sym (ap (λ (t : Turn). turned_of t r) c.in-Ends.is) ∙ c.in_ok-end-in-None.ensures.turned in
     ended_marks program ls (position_of c.advancing.here) c.in-None.ensures (out_of c.out_at.result) e ∙ c.advancing.invariant.marks
 
 pub returns-in-Ends-clause-path : goal.returns-in-Ends-clause-path
 returns-in-Ends-clause-path c =
     let program = program_in c.args.clauses.now in let ls = locals_of c.args.locals.now in
     let r = position_of c.take_turn.new.machine in
-    let e = ap ends c.out_at.ensures ∙ sym (ap (λ (t : Turn). turned_of t r) c.in-Ends.is) ∙ c.in_ok-end-in-None.ensures.turned in
+    let e = ap ends (c.out_at.ensures ∙ ap (λ ps. end_out ps.items c.in-Ends.end) c.into_path.ensures) ∙ sym (ap (λ (t : Turn). turned_of t r) c.in-Ends.is) ∙ c.in_ok-end-in-None.ensures.turned in
     ended_path program ls (position_of c.advancing.here) c.in-None.ensures (out_of c.out_at.result) e ∙ c.advancing.invariant.path
 
 pub returns-in-Fails-clause-marks : goal.returns-in-Fails-clause-marks

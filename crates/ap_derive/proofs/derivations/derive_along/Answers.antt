@@ -10,12 +10,10 @@ use Rattle.ap_backchain.specs.Problems.{clauses_in, queries_in}
 use Rattle.ap_checks.specs.Checks.{Checks}
 use Rattle.ap_checks.specs.Traces.{Traced, traced_query}
 use Rattle.ap_derive.specs.Derived.{derived}
-use Rattle.ap_derive.specs.declared.assembling.Derived.{Derived}
 use Rattle.ap_derive.specs.Nodes.{selected_node, nodes_before}
 use Rattle.ap_derive.specs.Solved.{rest_of}
-use Rattle.ap_derive.proofs.DerivedLemmas.{answer_derived, derived_checks, path_derivation, path_nodes, path_solved, same_some, typed_at}
+use Rattle.ap_derive.proofs.DerivedLemmas.{answer_derived, derived_checks, path_derived, path_nodes, path_solved, typed_at}
 use Rattle.ap_derive.proofs.derivations.derive_along.Goals as goal
-use Rattle.ap_derive.proofs.derivations.derive_along.Goals.{After-drop-machine-12}
 
 pub select_along-requires-clause-clauses : goal.select_along-requires-clause-clauses
 select_along-requires-clause-clauses c =
@@ -43,44 +41,37 @@ assemble-requires c =
           to.state (map selected_node c.in_ok-nodes.nodes.items) (rest_of c.args.path.now to) c.in_ok-nodes.ensures,
     )
 
-is_derived : (c : After-drop-machine-12) → (d : Derived) → ((e : NominalDerivation) → map selected_node c.in_ok-nodes.nodes.items ≡ nodes_before e [] → derived d ≡ derivation_in (position_of c.select_along.new.machine).state e)
-    → (q : NominalQuery) (r : Traced) → slice_get (queries_in c.args.p.now) (c.args.p.now.query - 1) ≡ Some q
-    → traced_query (clauses_in c.args.p.now) c.args.p.now.depth q c.args.path.now ≡ Some r → derived d ≡ derivation_in r.state r.derivation
-is_derived c d h x r k leads =
-    let p = c.args.p.now in
-    let q = query_of c.query_of_problem-query.result.now in let asked = c.query_of_problem-query.ensures.query in
-    let l = c.requires.leads q asked in
-    let same_program : program_in c.predicates-clauses.result.now ≡ clauses_in p = ap program_in (c.predicates-clauses.ensures.clauses) in
-    let to = position_of c.select_along.new.machine in
-    let one : x ≡ q = same_some (slice_get (queries_in p) (p.query - 1)) x q k asked in
-    let here : traced_query (clauses_in p) p.depth q c.args.path.now ≡ Some r = subst (λ (y : NominalQuery). traced_query (clauses_in p) p.depth y c.args.path.now ≡ Some r) one leads in
-    let nodes =
-    path_nodes (clauses_in p) p.depth q c.args.path.now l (program_in c.predicates-clauses.result.now) (position_of c.in_ok-machine.machine) same_program c.in_ok-machine.ensures
-    to.state (map selected_node c.in_ok-nodes.nodes.items) (rest_of c.args.path.now to) c.in_ok-nodes.ensures in
-    path_derivation (clauses_in p) p.depth q c.args.path.now l (program_in c.predicates-clauses.result.now) (position_of c.in_ok-machine.machine) same_program c.in_ok-machine.ensures
-    to.state (map selected_node c.in_ok-nodes.nodes.items) (rest_of c.args.path.now to) c.in_ok-nodes.ensures (derived d) (h l.traced.derivation nodes) r here
-
 pub returns-clause-derivation : goal.returns-clause-derivation
 returns-clause-derivation c =
     let p = c.args.p.now in
-    let s = (position_of c.select_along.new.machine).state in
-    IfOk-weaker c.assemble.result (λ d. (e : NominalDerivation) → map selected_node c.in_ok-nodes.nodes.items ≡ nodes_before e [] → derived d ≡ derivation_in s e)
+    let asked = c.query_of_problem-query.ensures.query in
+    let same_program : program_in c.predicates-clauses.result.now ≡ clauses_in p = ap program_in (c.predicates-clauses.ensures.clauses) in
+    let to = position_of c.select_along.new.machine in
+    IfOk-weaker c.assemble.result (λ d. (e : NominalDerivation) → map selected_node c.in_ok-nodes.nodes.items ≡ nodes_before e [] → derived d ≡ derivation_in to.state e)
     (λ d. (q : NominalQuery) (r : Traced) → slice_get (queries_in p) (p.query - 1) ≡ Some q → traced_query (clauses_in p) p.depth q c.args.path.now ≡ Some r
     → derived d ≡ derivation_in r.state r.derivation)
-    (is_derived c) c.assemble.ensures.derivation
+    (λ d h. path_derived p c.args.path.now (query_of c.query_of_problem-query.result.now) asked (c.requires.leads (query_of c.query_of_problem-query.result.now) asked)
+    (program_in c.predicates-clauses.result.now) (position_of c.in_ok-machine.machine) same_program c.in_ok-machine.ensures
+    to.state (map selected_node c.in_ok-nodes.nodes.items) (rest_of c.args.path.now to) c.in_ok-nodes.ensures (derived d) h)
+    c.assemble.ensures.derivation
 
 pub returns-clause-checks : goal.returns-clause-checks
 returns-clause-checks c =
     let p = c.args.p.now in
-    let s = (position_of c.select_along.new.machine).state in
+    let asked = c.query_of_problem-query.ensures.query in
+    let same_program : program_in c.predicates-clauses.result.now ≡ clauses_in p = ap program_in (c.predicates-clauses.ensures.clauses) in
+    let to = position_of c.select_along.new.machine in
     let program = program_of p.program.now in
     let typed = c.predicates-clauses.ensures.restricted.typed in
-    IfOk-weaker c.assemble.result (λ d. (e : NominalDerivation) → map selected_node c.in_ok-nodes.nodes.items ≡ nodes_before e [] → derived d ≡ derivation_in s e)
+    IfOk-weaker c.assemble.result (λ d. (e : NominalDerivation) → map selected_node c.in_ok-nodes.nodes.items ≡ nodes_before e [] → derived d ≡ derivation_in to.state e)
     (λ d. (q : NominalQuery) (a : NominalAnswer) → slice_get (queries_in p) (p.query - 1) ≡ Some q → outs_at (clauses_in p) p.depth q c.args.path.now ≡ found c.args.path.now a ∷ []
     → Checks program q a (derived d))
     (λ d h q a k only.
     let at = answer_derived (clauses_in p) p.depth q c.args.path.now a only in
-    subst (λ (e : NominalDerivation). Checks program q a e) (sym (is_derived c d h q at.0 k at.2))
+    let is = path_derived p c.args.path.now (query_of c.query_of_problem-query.result.now) asked (c.requires.leads (query_of c.query_of_problem-query.result.now) asked)
+    (program_in c.predicates-clauses.result.now) (position_of c.in_ok-machine.machine) same_program c.in_ok-machine.ensures
+    to.state (map selected_node c.in_ok-nodes.nodes.items) (rest_of c.args.path.now to) c.in_ok-nodes.ensures (derived d) h q at.0 k at.2 in
+    subst (λ (e : NominalDerivation). Checks program q a e) (sym is)
     (derived_checks program typed p.depth q (typed_at program.signature (queries_in p) (p.query - 1) q k typed.1) c.args.path.now a (derivation_in at.0.state at.0.derivation) at.1 only))
     c.assemble.ensures.derivation
 

@@ -4,7 +4,6 @@ use Rattle.ap_defs.specs.Types.{NominalLocal, locals_of}
 use Rattle.ap_search.specs.Marks.{mark_path}
 use Rattle.ap_search.specs.Prefixes.{beginning}
 use Rattle.ap_turns.specs.Standings.{IsChoosing, marks_of_standing, path_of_standing}
-use Rattle.ap_backchain.specs.Problems.{clauses_in}
 use Rattle.ap_backchain.proofs.BranchLemmas.{step_stands, way_stands}
 use Rattle.ap_backchain.proofs.descent.Descent.step.Goals as goal
 

@@ -1,7 +1,6 @@
 use Rattle.std.proofs.Common.{sym, subst}
 use Rattle.ap_defs.specs.Goals.{Clauses}
 use Rattle.ap_turns.specs.Standings.{IsChoosing, IsNamedNode}
-use Rattle.ap_backchain.specs.Problems.{clauses_in}
 use Rattle.ap_backchain.proofs.AnsweringLemmas.{standing_chooses}
 use Rattle.ap_backchain.proofs.BranchLemmas.{named_branch}
 use Rattle.ap_backchain.proofs.descent.Descent.stop.Goals as goal

@@ -8,6 +8,7 @@ ghost use Rattle.ap_backchain.specs.Problems.{HasQuery, clauses_in, queries_in};
 ghost use Rattle.ap_paths.specs.Limits as limits;
 ghost use Rattle.ap_paths.specs.Runs.{outs_of_runs};
 
+use crate::problem_tree::ProblemTree;
 use ap_backchain::problem::{Problem, outputs_with, short_outputs};
 use ap_backchain::run::Paths;
 use ap_book::merge;
@@ -16,7 +17,6 @@ use ap_defs::memory::Memory;
 use ap_defs::paths::Out;
 use ap_io::Gate;
 use ap_paths::{Limit, Run, outs_in_full, part};
-use ap_replay::problem_tree::ProblemTree;
 use ap_steal::search_within;
 use std::alloc::Global;
 use std::sync::Wait;
@@ -24,7 +24,7 @@ use std::thread::Threads;
 
 /// The outputs of a query up to the last answer that is wanted, with their paths or without, as runs, which
 /// so many workers find between them.
-pub(crate) fn search_beside<R: Threads + Wait + Sync, G: Gate>(
+pub fn search_beside<R: Threads + Wait + Sync, G: Gate>(
     rt: &R,
     alloc: Global,
     gate: &G,

@@ -7,8 +7,8 @@ use Rattle.ap_paths.specs.Limits.{part}
 use Rattle.ap_replay.proofs.Shared.{tree_sync}
 use Rattle.ap_replay.proofs.WholeLemmas.{whole_is_query}
 use Rattle.ap_replay.specs.ProblemTrees.{kept_outs}
-use Rattle.ap_report.proofs.Limiting.{part_kept}
-use Rattle.ap_report.proofs.solver.search_beside.Goals as goal
+use Rattle.ap_replay.proofs.Kept.{part_kept}
+use Rattle.ap_replay.proofs.solver.search_beside.Goals as goal
 
 pub search_within-requires-sync-T : goal.search_within-requires-sync-T
 search_within-requires-sync-T g c κs within = search (sendable, tree_sync)

@@ -4,7 +4,7 @@ use Rattle.std.proofs.lemmas.Result.{IfOk-weaker}
 use Rattle.ap_defs.specs.Answers.{query_outs}
 use Rattle.ap_backchain.specs.Problems.{clauses_in}
 use Rattle.ap_paths.specs.Limits.{part}
-use Rattle.ap_report.proofs.solver.solve.Goals as goal
+use Rattle.ap_replay.proofs.solver.solve.Goals as goal
 
 -- with their paths they are as they were
 pub returns : goal.returns
