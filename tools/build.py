@@ -26,7 +26,7 @@ LIBRARIES_BY_RT = 3
 # The memory that one check may take.
 BYTES_A_CHECK = 3 << 30
 # What `loop_seconds` gives on the machine of docs/ARCHITECTURE.md's table, when nothing else is at work.
-LOOP_SECONDS_OF_THE_TABLE = 0.13
+LOOP_SECONDS_OF_THE_TABLE = 0.107
 
 
 def say(text):
