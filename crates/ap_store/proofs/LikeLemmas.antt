@@ -1,5 +1,5 @@
 -- Variables that are kept for bound ones stand for terms with the same variables, as changes are made and undone.
-use Rattle.std.proofs.Common.{◌≡◌, ◌≢◌, ◌≤◌, ℕ, zero, suc, Bool, true, false, true≢false, List, [], ◌∷◌, ◌++◌, length, inl, inr, refl, sym, ap, ap₂, ◌∙◌, subst, arith}
+use Rattle.std.proofs.Common.{◌≡◌, ◌≢◌, ◌≤◌, ◌<◌, ◌⊎◌, ℕ, zero, suc, Bool, true, false, true≢false, List, [], ◌∷◌, ◌++◌, length, inl, inr, refl, sym, ap, ap₂, ◌∙◌, subst, arith}
 use Rattle.std.specs.Prelude.{◌==◌, if◌then◌else◌, Some, None, is_some, slice_index_or, slice_set}
 use Rattle.std.proofs.lemmas.Bool.Decides.{nat_tests}
 use Rattle.ap_defs.specs.Freshness.{var_eq}
@@ -234,16 +234,22 @@ like_in_apart (k ∷ ls) zero (suc j) l h = refl
 like_in_apart (k ∷ ls) (suc i) zero l h = refl
 like_in_apart (k ∷ ls) (suc i) (suc j) l h = like_in_apart ls i j l (let e : (j == i) ≡ (suc j == suc i) = grind (arith, nat_tests) in e ∙ h)
 
-module _ (bs : List Binding) (t : NominalTerm) where
-  pub like_in_here : (ls : List Like) (i : ℕ) (l : Like) → IsAlike l bs t → IsAlike (like_in (slice_set ls i l) i) bs t
-  like_in_here [] zero l h = tt
-  like_in_here [] (suc i) l h = tt
-  like_in_here (k ∷ ls) zero l h = h
-  like_in_here (k ∷ ls) (suc i) l h = like_in_here ls i l h
+pub like_in_put : (ls : List Like) (i : ℕ) (l : Like) → i < length ls → like_in (slice_set ls i l) i ≡ l
+like_in_put [] i l h = absurd (omega arith)
+like_in_put (k ∷ ls) zero l h = refl
+like_in_put (k ∷ ls) (suc i) l h = like_in_put ls i l (omega arith)
 
-  -- beyond the list nothing is kept
-  pub nothing_alike : (l : Like) → l ≡ kept.Nothing → IsAlike l bs t
-  nothing_alike l e = subst (λ (k : Like). IsAlike k bs t) (sym e) tt
+-- beyond the list nothing is put
+pub like_in_here : (ls : List Like) (i : ℕ) (l : Like) → (like_in (slice_set ls i l) i ≡ l) ⊎ (like_in (slice_set ls i l) i ≡ kept.Nothing)
+like_in_here [] zero l = inr refl
+like_in_here [] (suc i) l = inr refl
+like_in_here (k ∷ ls) zero l = inl refl
+like_in_here (k ∷ ls) (suc i) l = like_in_here ls i l
+
+-- where what is kept holds of a term, so it does if nothing is kept in its place
+pub here_alike : (bs : List Binding) (t : NominalTerm) (k l : Like) → (k ≡ l) ⊎ (k ≡ kept.Nothing) → IsAlike l bs t → IsAlike k bs t
+here_alike bs t k l (inl e) h = subst (λ (j : Like). IsAlike j bs t) (sym e) h
+here_alike bs t k l (inr e) h = subst (λ (j : Like). IsAlike j bs t) (sym e) tt
 
 -- one more place, where nothing is kept
 pub like_in_more : (ls us : List Like) (i : ℕ) → us ≡ ls ++ kept.Nothing ∷ [] → like_in us i ≡ like_in ls i

@@ -1,10 +1,8 @@
 //! What is kept beside bound variables: the number of another variable that stands for a term with the same
 //! variables. Of numbers behind the last place nothing is kept, so that a search which needs none has no places.
 
-ghost use Rattle.std.specs.Prelude.{◌≡◌, ℕ, ◌<◌, ◌==◌, List, false, OnOk, length};
-ghost use Rattle.ap_defs.specs.Substitution.{Binding};
-ghost use Rattle.ap_defs.specs.Terms.{NominalTerm};
-ghost use Rattle.ap_store.specs.Likes.{IsAlike, like_in};
+ghost use Rattle.std.specs.Prelude.{◌≡◌, ◌⊎◌, ℕ, ◌<◌, ◌==◌, false, OnOk, length};
+ghost use Rattle.ap_store.specs.Likes.{like_in};
 
 use ap_defs::memory::Memory;
 
@@ -35,12 +33,14 @@ fn make_place(likes: &mut Vec<Like>, place: usize) -> Result<(), Memory>
     Ok(())
 }
 
-/// Keeps another number beside one, or nothing. Where memory is wanting, nothing is kept.
+/// Keeps another number beside one, or nothing. Behind the last place so far it may be that nothing is kept: where memory
+/// is wanting.
 pub fn keep_like(likes: &mut Vec<Like>, place: usize, like: Like)
     ensures others { (i : ℕ) → (i == place) ≡ false →
         like_in likes.new.items i ≡ like_in likes.old.items i }
-    ensures here { (bs : List Binding) (t : NominalTerm) → IsAlike like bs t →
-        IsAlike (like_in likes.new.items place) bs t }
+    ensures room { place < length likes.old.items → like_in likes.new.items place ≡ like }
+    ensures here { (like_in likes.new.items place ≡ like)
+        ⊎ (like_in likes.new.items place ≡ Like.Nothing) }
 {
     if place < likes.len() {
         likes[place] = like;

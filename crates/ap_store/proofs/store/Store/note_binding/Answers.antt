@@ -6,7 +6,7 @@ use Rattle.ap_store.specs.Marks.{is_ground_value}
 use Rattle.ap_store.specs.Slots.{AreKeptBelow, bound_in, changes_in, kept_term}
 use Rattle.ap_store.specs.Views.{bindings_of, changes}
 use Rattle.ap_store.proofs.HeldLemmas.{held_bound}
-use Rattle.ap_store.proofs.LikeLemmas.{likes_bound}
+use Rattle.ap_store.proofs.LikeLemmas.{here_alike, likes_bound}
 use Rattle.ap_store.proofs.MarkLemmas.{marked_bound}
 use Rattle.ap_store.proofs.ReachLemmas.{all_kept_rises, kept_rises}
 use Rattle.ap_store.proofs.SoundLemmas.{ranked_after}
@@ -30,7 +30,7 @@ invariant_of-self c =
     let g = bound_changes s.table.items us s.trail.items ts s.noted.items s.reach x t s.stored c.requires.unbound f c.push_reserved.ensures.items in
     let marks = marked_bound s.table.items us (changes s) (changes_in us ts s.noted.items) s.marked x t (is_ground_value c.args.value) (unbound_raw (changes s) x s.stored.0 c.requires.unbound) g c.put_value.ensures.marks c.requires.mark in
     let likes = likes_bound (like_in s.likes.items) (changes s) (changes_in us ts s.noted.items) s.likened (like_in c.keep_like.new.likes.items) x t (unbound_raw (changes s) x s.stored.0 c.requires.unbound) g c.keep_like.ensures.others
-    (c.keep_like.ensures.here (bindings_of s) t c.requires.like) in
+    (here_alike (bindings_of s) t _ c.args.like c.keep_like.ensures.here c.requires.like) in
     record { stored = kept; holds = held_bound s.held.items (changes s) (changes_in us ts s.noted.items) x t s.holds g; marked = marks; likened = likes; ranked = ranked_after (changes_in us ts s.noted.items) kept.0 }
 
 pub returns-clause-present : goal.returns-clause-present
