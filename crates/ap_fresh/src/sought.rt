@@ -1,6 +1,6 @@
 //! Names that a look has sought in variables.
 
-ghost use Rattle.std.specs.Prelude.{◌≡◌, ◌⊎◌, true, OnOk};
+ghost use Rattle.std.specs.Prelude.{◌≡◌, ◌⊎◌, true, OnOk, IsErrOf};
 ghost use Rattle.ap_defs.specs.declared.terms.Cond.{Cond as condition};
 ghost use Rattle.ap_fresh.specs.Sought.{cond_key, was_sought};
 
@@ -56,8 +56,9 @@ pub(crate) fn is_sought(sought: &Sought, c: &Cond) -> bool
 
 /// A name is sought in a variable.
 pub(crate) fn seek(sought: &mut Sought, c: &Cond) -> Result<(), FreshError>
-    ensures { OnOk result ((d : condition) → was_sought sought.new d ≡ true →
+    ensures sought { OnOk result ((d : condition) → was_sought sought.new d ≡ true →
         (was_sought sought.old d ≡ true) ⊎ (d ≡ c.now)) }
+    ensures memory { IsErrOf result FreshError.Refuted → ⊥ }
 {
     sought.count = sought.count.saturating_add(1);
     sought.least = sought.least.min(c.var.num);

@@ -218,7 +218,7 @@ collecting-preserved g c =
     let m : in_var (g.L.Look.bound c.args.look.now) (g.L.Look.rank c.args.look.now) (g.met.L.Look.ranked c.args.look.now) n ≡ problem_of (g.L.Look.bound c.args.look.now) (g.L.Look.rank c.args.look.now) (g.met.L.Look.ranked c.args.look.now) w = v ∙ ap₂ (problem (g.L.Look.bound c.args.look.now) (g.L.Look.rank c.args.look.now) (g.met.L.Look.ranked c.args.look.now)) (sym c.bound.ensures.name) (sym c.bound.ensures.term) in
     let a = visits_bound (g.L.Look.bound c.args.look.now) (g.L.Look.rank c.args.look.now) (g.met.L.Look.ranked c.args.look.now) [] x d.swaps.now u c.in-Some-look.ensures in
     let k : visits_of (g.L.Look.bound c.args.look.now) (g.L.Look.rank c.args.look.now) (g.met.L.Look.ranked c.args.look.now) w ≡ visits (g.L.Look.bound c.args.look.now) (g.L.Look.rank c.args.look.now) u = ap (visits (g.L.Look.bound c.args.look.now) (g.L.Look.rank c.args.look.now)) c.bound.ensures.term in
-    one_sought (g.L.Look.bound c.args.look.now) (g.L.Look.rank c.args.look.now) (g.met.L.Look.ranked c.args.look.now) (both (by_rules c.args.first.name (carried_out (g.L.Look.bound c.args.look.now) (g.L.Look.rank c.args.look.now) (pending_term c.args.first))) (Some c.args.conds.now.items)) (was_sought c.collecting.sought) (was_sought c.seek.new.sought) rest c.collecting.conds.items n c.in_ok-seek.ensures
+    one_sought (g.L.Look.bound c.args.look.now) (g.L.Look.rank c.args.look.now) (g.met.L.Look.ranked c.args.look.now) (both (by_rules c.args.first.name (carried_out (g.L.Look.bound c.args.look.now) (g.L.Look.rank c.args.look.now) (pending_term c.args.first))) (Some c.args.conds.now.items)) (was_sought c.collecting.sought) (was_sought c.seek.new.sought) rest c.collecting.conds.items n c.in_ok-seek-in-Some-look.ensures.sought
     (λ o t. inr (subst (IsToldBelow (g.L.Look.bound c.args.look.now) (g.L.Look.rank c.args.look.now) (g.met.L.Look.ranked c.args.look.now) o (visits_below (g.L.Look.bound c.args.look.now) (g.L.Look.rank c.args.look.now) (g.met.L.Look.ranked c.args.look.now) n)) (sym c.in_ok-push-in-Some-look.ensures.items) (behind (g.L.Look.bound c.args.look.now) (g.L.Look.rank c.args.look.now) (g.met.L.Look.ranked c.args.look.now) o (visits_below (g.L.Look.bound c.args.look.now) (g.L.Look.rank c.args.look.now) (g.met.L.Look.ranked c.args.look.now) n) c.pop.new.self.items (w ∷ []) (inl (omega (arith, a, k), ap (λ y. tells y o) (sym m) ∙ t)))))
     (replaced (g.L.Look.bound c.args.look.now) (g.L.Look.rank c.args.look.now) (g.met.L.Look.ranked c.args.look.now) (both (by_rules c.args.first.name (carried_out (g.L.Look.bound c.args.look.now) (g.L.Look.rank c.args.look.now) (pending_term c.args.first))) (Some c.args.conds.now.items)) (was_sought c.collecting.sought) c.pop.new.self.items (w ∷ []) rest c.collecting.left.items c.in-Some.p c.in-Some.ensures.items c.in_ok-push-in-Some-look.ensures.items c.collecting.conds.items c.collecting.invariant (h ∙ m ∙ sym (all_one (g.L.Look.bound c.args.look.now) (g.L.Look.rank c.args.look.now) (g.met.L.Look.ranked c.args.look.now) w)) (omega (arith, a, k, l), tt))
 
