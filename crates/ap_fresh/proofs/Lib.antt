@@ -2,3 +2,4 @@ pub mod SetLemmas
 pub mod StepLemmas
 pub mod RenamedLemmas
 pub mod PendingLemmas
+mod SoughtLemmas

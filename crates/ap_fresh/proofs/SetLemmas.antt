@@ -1,44 +1,96 @@
 -- Conditions that are put behind one another, and their set.
-use Rattle.std.proofs.Common.{◌≡◌, Bool, true, false, ◌&&◌, ◌||◌, List, [], ◌∷◌, ◌++◌, refl, sym, ap, ◌∙◌}
+use Rattle.std.proofs.Common.{◌≡◌, ◌⊎◌, Bool, true, false, true≢false, ◌&&◌, ◌||◌, List, [], ◌∷◌, ◌++◌, refl, sym, ap, ◌∙◌, append_assoc}
+use Rattle.std.proofs.lemmas.List.{append-nil}
 use Rattle.std.specs.List.{list_all}
 use Rattle.std.specs.Prelude.{Option, Some, None, if◌then◌else◌, is_none}
 use Rattle.ap_defs.specs.Freshness.{Conds, add_cond, add_conds, both, cond_before, cond_eq, has_cond, reduce}
 use Rattle.ap_defs.specs.Terms.{NominalTerm}
 use Rattle.ap_defs.specs.declared.terms.Cond.{Cond}
 use Rattle.ap_defs.specs.declared.terms.Name.{Name}
-use Rattle.ap_theory.proofs.BooleanLemmas.{or_nothing}
+use Rattle.ap_theory.proofs.BooleanLemmas.{or_cases}
+use Rattle.ap_theory.proofs.CollectionLemmas.{collected_both}
 use Rattle.ap_theory.proofs.ConditionSetLemmas.{add_conds_same, cond_eq_tells, has_cond-append}
 use Rattle.ap_theory.proofs.ReductionLemmas.{is_none_reduce}
 use Rattle.ap_theory.proofs.UnderLemmas.{fresh_under_reduce}
-use Rattle.ap_theory.specs.StatementsOnConditions.{collected, is_free}
+use Rattle.ap_theory.specs.StatementsOnConditions.{collected, is_free, joined_conditions}
 use Rattle.ap_theory.specs.StatementsOnTests.{all_in}
-use Rattle.ap_fresh.specs.Reduction.{IsLeast, added, put_behind}
+use Rattle.ap_fresh.specs.Reduction.{IsLeast, added}
 
-pub behind-append : (cs ds es : List Cond) → put_behind (cs ++ ds) es ≡ put_behind cs (put_behind ds es)
-behind-append [] ds es = refl
-behind-append (c ∷ cs) ds es = ap (λ (bs : List Cond). bs ++ c ∷ []) (behind-append cs ds es)
+-- What a problem may tell is that it is refuted, or a condition; one that is refuted tells each.
+abbrev pub tells : Option (List Cond) → Option Cond → Bool
+tells None e = true
+tells (Some cs) None = false
+tells (Some cs) (Some c) = has_cond c cs
 
-last_first : (x y z : Bool) → ((y || z) || (x || false)) ≡ ((x || y) || z)
-last_first true true z = refl
-last_first true false true = refl
-last_first true false false = refl
-last_first false true z = refl
-last_first false false true = refl
-last_first false false false = refl
+or_true : (b : Bool) → (b || true) ≡ true
+or_true true = refl
+or_true false = refl
 
-members_behind : (b : Cond) (cs ds : List Cond) → has_cond b (put_behind cs ds) ≡ (has_cond b cs || has_cond b ds)
-members_behind b [] ds = refl
-members_behind b (c ∷ cs) ds =
-    has_cond-append b (put_behind cs ds) (c ∷ []) ∙ ap (λ x. x || (cond_eq b c || false)) (members_behind b cs ds) ∙ last_first (cond_eq b c) (has_cond b cs) (has_cond b ds)
+tells_both : (o p : Option (List Cond)) (e : Option Cond) → tells (both o p) e ≡ (tells o e || tells p e)
+tells_both None p e = refl
+tells_both (Some cs) None e = sym (or_true (tells (Some cs) e))
+tells_both (Some cs) (Some ds) None = refl
+tells_both (Some cs) (Some ds) (Some c) = has_cond-append c cs ds
+
+module _ (e : Option Cond) where
+  pub left_tells : (o p : Option (List Cond)) → tells o e ≡ true → tells (both o p) e ≡ true
+  left_tells o p h = tells_both o p e ∙ ap (λ b. b || tells p e) h
+
+  pub right_tells : (o p : Option (List Cond)) → tells p e ≡ true → tells (both o p) e ≡ true
+  right_tells o p h = tells_both o p e ∙ ap (λ b. tells o e || b) h ∙ or_true (tells o e)
+
+  pub one_tells : (o p : Option (List Cond)) → tells (both o p) e ≡ true → (tells o e ≡ true) ⊎ (tells p e ≡ true)
+  one_tells o p h = or_cases (tells o e) (tells p e) (sym (tells_both o p e) ∙ h)
+
+pub nothing_told : (e : Option Cond) → tells (Some []) e ≡ true → ⊥
+nothing_told None h = true≢false (sym h)
+nothing_told (Some c) h = true≢false (sym h)
+
+pub refuted_is : (o : Option (List Cond)) → tells o None ≡ true → o ≡ None
+refuted_is None h = refl
+refuted_is (Some cs) h = absurd (true≢false (sym h))
+
+-- problems that tell the same have the same set of conditions
+pub told_same : (o p : Option (List Cond)) → ((e : Option Cond) → tells o e ≡ tells p e) → collected o ≡ collected p
+told_same None None h = refl
+told_same None (Some cs) h = absurd (true≢false (h None))
+told_same (Some cs) None h = absurd (true≢false (sym (h None)))
+told_same (Some cs) (Some ds) h = ap Some (add_conds_same cs ds (λ c. h (Some c)))
+
+or_flip : (a b : Bool) → (a || b) ≡ (b || a)
+or_flip true b = sym (or_true b)
+or_flip false true = refl
+or_flip false false = refl
+
+-- one condition behind others
+pub cond_behind : (c : Cond) (ds : Conds) → added (Some (c ∷ [])) ds ≡ collected (Some (ds ++ c ∷ []))
+cond_behind c ds =
+    told_same (both (Some (c ∷ [])) (Some ds)) (both (Some ds) (Some (c ∷ [])))
+    (λ e. tells_both (Some (c ∷ [])) (Some ds) e ∙ or_flip (tells (Some (c ∷ [])) e) (tells (Some ds) e) ∙ sym (tells_both (Some ds) (Some (c ∷ [])) e))
+
+pub both_assoc : (x y z : Option (List Cond)) → both (both x y) z ≡ both x (both y z)
+both_assoc None y z = refl
+both_assoc (Some cs) None z = refl
+both_assoc (Some cs) (Some ds) None = refl
+both_assoc (Some cs) (Some ds) (Some es) = ap Some (append_assoc cs ds es)
+
+pub both_nothing : (x : Option (List Cond)) → both x (Some []) ≡ x
+both_nothing None = refl
+both_nothing (Some cs) = ap Some (append-nil cs)
 
 -- the conditions of both parts, where those of the second one came before
-pub added_both : (o p : Option (List Cond)) (ds es fs : List Cond) → added p ds ≡ Some es → added o es ≡ Some fs → added (both o p) ds ≡ Some fs
-added_both None p ds es fs h k = cc
-added_both (Some cs) None ds es fs h k = cc
-added_both (Some cs) (Some bs) ds es fs h k = ap Some (behind-append cs bs ds ∙ ap (put_behind cs) (some_same h)) ∙ k
-  where
-    some_same : {v w : List Cond} → Some v ≡ Some w → v ≡ w
-    some_same e = cc
+pub added_both : (o p : Option (List Cond)) (ds es fs : List Cond) → added p ds ≡ collected (Some es) → added o es ≡ collected (Some fs) → added (both o p) ds ≡ collected (Some fs)
+added_both o p ds es fs h k =
+    ap collected (both_assoc o p (Some ds)) ∙ collected_both o (both p (Some ds)) ∙ ap (joined_conditions (collected o)) h ∙ sym (collected_both o (Some es)) ∙ k
+
+-- a problem that is refuted leaves no set
+pub added_none : (o : Option (List Cond)) (ds : Conds) → added o ds ≡ None → o ≡ None
+added_none None ds h = refl
+added_none (Some cs) ds h = cc
+
+pub none_of_both : (o : Option (List Cond)) (ds : Conds) → both o (Some ds) ≡ None → o ≡ None
+none_of_both None ds h = refl
+none_of_both (Some cs) ds h = cc
 
 pub both_left : (o p : Option (List Cond)) → o ≡ None → both o p ≡ None
 both_left None p h = refl
@@ -104,10 +156,5 @@ pub refuted_free : (a : Name) (t : NominalTerm) → reduce a t ≡ None → is_f
 refuted_free a t h = sym (is_none_reduce a t) ∙ ap is_none h
 
 -- the set of the conditions that were put behind one another
-pub collected_set : (o : Option (List Cond)) (cs : List Cond) → added o [] ≡ Some cs → collected o ≡ Some (add_conds cs [])
-collected_set None cs h = cc
-collected_set (Some bs) cs h =
-    ap Some (add_conds_same bs cs (λ c. sym (ap (has_cond c) (sym (some_same h)) ∙ members_behind c bs [] ∙ or_nothing (has_cond c bs))))
-  where
-    some_same : {v w : List Cond} → Some v ≡ Some w → v ≡ w
-    some_same e = cc
+pub collected_set : (o : Option (List Cond)) (cs : List Cond) → added o [] ≡ collected (Some cs) → collected o ≡ Some (add_conds cs [])
+collected_set o cs h = ap collected (sym (both_nothing o)) ∙ h

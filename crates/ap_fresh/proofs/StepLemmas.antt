@@ -1,7 +1,7 @@
 -- What a freshness problem reduces to, for each kind of term.
 use Rattle.std.proofs.Common.{◌≡◌, ℕ, true, false, List, [], ◌∷◌, refl, sym, ap, ◌∙◌}
 use Rattle.std.specs.Prelude.{Option, Some, None, Result, Ok, Err, OnOk, if◌then◌else◌}
-use Rattle.ap_defs.specs.Freshness.{Conds, both, reduce}
+use Rattle.ap_defs.specs.Freshness.{both, reduce}
 use Rattle.ap_defs.specs.Permutations.{act_name, inverse, name_eq}
 use Rattle.ap_defs.specs.Terms.{NominalTerm, abs, act_term, app, name, pair, susp, unit}
 use Rattle.ap_defs.specs.declared.terms.Cond.{Cond}
@@ -9,7 +9,6 @@ use Rattle.ap_defs.specs.declared.terms.Name.{Name}
 use Rattle.ap_defs.specs.declared.terms.Swap.{Swap}
 use Rattle.ap_defs.specs.declared.terms.Var.{Var}
 use Rattle.ap_perm.specs.Inner.{inner_part}
-use Rattle.ap_fresh.specs.Reduction.{added}
 use Rattle.ap_perm.proofs.LookupLemmas.{carried_out_abs, carried_out_act, carried_out_app, carried_out_bound, carried_out_name, carried_out_pair, carried_out_unbound, carried_out_unit}
 use Rattle.ap_perm.specs.Lookups.{Bound, IsRanked, carried_out}
 use Rattle.ap_theory.proofs.ReductionLemmas.{reduce_act}
@@ -24,14 +23,14 @@ module _ (bound : Bound) (rank : Var → ℕ) (ranked : IsRanked bound rank) whe
   abbrev pub problem : Name → NominalTerm → Option (List Cond)
   problem a t = reduce a (carried_out bound rank t)
 
-  pub unit_added : (a : Name) (u : NominalTerm) (ds : Conds) → u ≡ unit → added (problem a u) ds ≡ Some ds
-  unit_added a u ds e = ap (λ o. added o ds) (ap (problem a) e ∙ ap (reduce a) (carried_out_unit bound rank ranked))
+  pub unit_problem : (a : Name) (u : NominalTerm) → u ≡ unit → problem a u ≡ Some []
+  unit_problem a u e = ap (problem a) e ∙ ap (reduce a) (carried_out_unit bound rank ranked)
 
   pub name_refuted : (a b : Name) (u : NominalTerm) → u ≡ name b → name_eq a b ≡ true → problem a u ≡ None
   name_refuted a b u e h = ap (problem a) e ∙ ap (reduce a) (carried_out_name bound rank ranked b) ∙ rw h refl
 
-  pub name_added : (a b : Name) (u : NominalTerm) (ds : Conds) → u ≡ name b → name_eq a b ≡ false → added (problem a u) ds ≡ Some ds
-  name_added a b u ds e h = ap (λ o. added o ds) (ap (problem a) e ∙ ap (reduce a) (carried_out_name bound rank ranked b)) ∙ rw h refl
+  pub name_problem : (a b : Name) (u : NominalTerm) → u ≡ name b → name_eq a b ≡ false → problem a u ≡ Some []
+  name_problem a b u e h = ap (problem a) e ∙ ap (reduce a) (carried_out_name bound rank ranked b) ∙ rw h refl
 
   pub pair_problem : (a : Name) (t v u : NominalTerm) → u ≡ pair t v → problem a u ≡ both (problem a t) (problem a v)
   pair_problem a t v u e = ap (problem a) e ∙ ap (reduce a) (carried_out_pair bound rank ranked t v)
@@ -39,8 +38,8 @@ module _ (bound : Bound) (rank : Var → ℕ) (ranked : IsRanked bound rank) whe
   pub app_problem : (a : Name) (f : ℕ) (t u : NominalTerm) → u ≡ app f t → problem a u ≡ problem a t
   app_problem a f t u e = ap (problem a) e ∙ ap (reduce a) (carried_out_app bound rank ranked f t)
 
-  pub abs_added : (a b : Name) (t u : NominalTerm) (ds : Conds) → u ≡ abs b t → name_eq a b ≡ true → added (problem a u) ds ≡ Some ds
-  abs_added a b t u ds e h = ap (λ o. added o ds) (ap (problem a) e ∙ ap (reduce a) (carried_out_abs bound rank ranked b t)) ∙ rw h refl
+  pub binder_problem : (a b : Name) (t u : NominalTerm) → u ≡ abs b t → name_eq a b ≡ true → problem a u ≡ Some []
+  binder_problem a b t u e h = ap (problem a) e ∙ ap (reduce a) (carried_out_abs bound rank ranked b t) ∙ rw h refl
 
   pub abs_problem : (a b : Name) (t u : NominalTerm) → u ≡ abs b t → name_eq a b ≡ false → problem a u ≡ problem a t
   abs_problem a b t u e h = ap (problem a) e ∙ ap (reduce a) (carried_out_abs bound rank ranked b t) ∙ rw h refl

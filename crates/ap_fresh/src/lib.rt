@@ -4,3 +4,4 @@
 pub mod error;
 mod pending;
 pub mod reduction;
+mod sought;

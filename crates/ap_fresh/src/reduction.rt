@@ -12,6 +12,7 @@ ghost use Rattle.ap_fresh.specs.Reduction.{added, pending_term, IsLeast};
 
 use crate::error::FreshError;
 use crate::pending::Pending;
+use crate::sought::{Sought, is_sought, seek};
 use ap_defs::terms::{Cond, Name, Swap, Term, Var};
 use ap_perm::closures::Closure;
 use ap_perm::joining::numbered;
@@ -38,16 +39,20 @@ fn preimage_from(base: u64, end: u64, swaps: &[Swap], a: Name) -> Name
     moved
 }
 
-/// Puts the conditions to which a problem reduces under the bindings behind others, from the last to the
-/// first. What is left to be reduced lies on a stack.
+/// Puts the conditions to which a problem reduces under the bindings behind others. What is left to be reduced lies on
+/// a stack. A name is sought once in a variable, from where many were gone through: so a term that has it in many places
+/// takes no longer than one that has it once.
 fn collect<L: Look>(first: Pending<'_>, look: &L, conds: &mut Vec<Cond>) -> Result<(), FreshError>
     ensures added { OnOk result (added (by_rules first.entry.name (carried_out (L.bound look.now)
-        (L.rank look.now) (pending_term first.entry))) conds.old.items ≡ Some conds.new.items) }
+        (L.rank look.now) (pending_term first.entry))) conds.old.items
+        ≡ collected (Some conds.new.items)) }
     ensures refuted { IsErrOf result FreshError.Refuted →
         by_rules first.entry.name (carried_out (L.bound look.now) (L.rank look.now)
         (pending_term first.entry)) ≡ None }
 {
-    let mut left = Vec::new(*conds.allocator());
+    let alloc = *conds.allocator();
+    let mut left = Vec::new(alloc);
+    let mut sought = Sought::new(alloc);
     left.push(first)?;
     'collecting: while let Some(p) = left.pop() {
         match p.term {
@@ -78,7 +83,14 @@ fn collect<L: Look>(first: Pending<'_>, look: &L, conds: &mut Vec<Cond>) -> Resu
                 };
                 match look.look(var) {
                     None => conds.push(Cond { name, var })?,
-                    Some(c) => left.push(Pending::bound(name, c))?,
+                    Some(c) => {
+                        let there = Cond { name, var };
+                        if is_sought(&sought, &there) {
+                            continue;
+                        }
+                        seek(&mut sought, &there)?;
+                        left.push(Pending::bound(name, c))?;
+                    }
                 }
             }
         }
@@ -86,8 +98,8 @@ fn collect<L: Look>(first: Pending<'_>, look: &L, conds: &mut Vec<Cond>) -> Resu
     Ok(())
 }
 
-/// Puts the conditions to which `a # t` reduces under the bindings behind others, from the last to the
-/// first, each as often as it comes. `Refuted` comes exactly where there are none.
+/// Puts the conditions to which `a # t` reduces under the bindings behind others; one may come more than once.
+/// `Refuted` comes exactly where there are none.
 pub fn add_reduced<L: Look>(
     a: Name,
     t: &Closure<'_>,
@@ -95,15 +107,15 @@ pub fn add_reduced<L: Look>(
     conds: &mut Vec<Cond>,
 ) -> Result<(), FreshError>
     ensures added { OnOk result (added (by_rules a (carried_out (L.bound look.now) (L.rank look.now)
-        (closure_term t.now))) conds.old.items ≡ Some conds.new.items) }
+        (closure_term t.now))) conds.old.items ≡ collected (Some conds.new.items)) }
     ensures refuted { IsErrOf result FreshError.Refuted →
         by_rules a (carried_out (L.bound look.now) (L.rank look.now) (closure_term t.now)) ≡ None }
 {
     collect(Pending::bound(a, t.lent()), look, conds)
 }
 
-/// Puts the conditions to which `a # x` reduces under the bindings behind others, from the last to the
-/// first, each as often as it comes. `Refuted` comes exactly where there are none.
+/// Puts the conditions to which `a # x` reduces under the bindings behind others; one may come more than once.
+/// `Refuted` comes exactly where there are none.
 pub fn add_reduced_var<L: Look>(
     a: Name,
     x: Var,
@@ -111,7 +123,7 @@ pub fn add_reduced_var<L: Look>(
     conds: &mut Vec<Cond>,
 ) -> Result<(), FreshError>
     ensures added { OnOk result (added (by_rules a (carried_out (L.bound look.now) (L.rank look.now)
-        (susp [] x))) conds.old.items ≡ Some conds.new.items) }
+        (susp [] x))) conds.old.items ≡ collected (Some conds.new.items)) }
     ensures refuted { IsErrOf result FreshError.Refuted →
         by_rules a (carried_out (L.bound look.now) (L.rank look.now) (susp [] x)) ≡ None }
 {

@@ -25,7 +25,7 @@ fn reduce_one<'a>(
     conds: &mut Vec<Cond>,
 ) -> Result<bool, Memory>
     ensures { IfOk result (λ fine. added (reduced (bindings_of store.now) (problem_for p.now))
-        conds.old.items ≡ some_if fine conds.new.items) }
+        conds.old.items ≡ collected (some_if fine conds.new.items)) }
 {
     match p {
         FreshFor::OfTerm(a, c) => reduce_closure(store, *a, c, conds),
@@ -33,15 +33,14 @@ fn reduce_one<'a>(
     }
 }
 
-/// Puts the conditions to which problems reduce behind others, from the last to the first, unless one is
-/// refuted.
+/// Puts the conditions to which problems reduce behind others, unless one is refuted.
 fn reduce_each<'a>(
     store: &Store<'a>,
     problems: &[FreshFor<'a>],
     conds: &mut Vec<Cond>,
 ) -> Result<bool, Memory>
     ensures { IfOk result (λ fine. added (reduce_all (bindings_of store.now)
-        (map problem_for problems.now)) conds.old.items ≡ some_if fine conds.new.items) }
+        (map problem_for problems.now)) conds.old.items ≡ collected (some_if fine conds.new.items)) }
 {
     'reducing: for i in (0..problems.len()).rev() {
         if !reduce_one(store, &problems[i], conds)? {
@@ -51,15 +50,14 @@ fn reduce_each<'a>(
     Ok(true)
 }
 
-/// Puts the conditions to which conditions reduce behind others, from the last to the first, unless one
-/// is refuted.
+/// Puts the conditions to which conditions reduce behind others, unless one is refuted.
 fn reduce_taken<'a>(
     store: &Store<'a>,
     taken: &[Cond],
     conds: &mut Vec<Cond>,
 ) -> Result<bool, Memory>
     ensures { IfOk result (λ fine. added (reduce_all (bindings_of store.now)
-        (map problem_of taken.now)) conds.old.items ≡ some_if fine conds.new.items) }
+        (map problem_of taken.now)) conds.old.items ≡ collected (some_if fine conds.new.items)) }
 {
     'reducing: for i in (0..taken.len()).rev() {
         if !reduce_var(store, taken[i].name, taken[i].var, conds)? {

@@ -8,6 +8,7 @@ ghost use Rattle.ap_defs.specs.Terms.{susp};
 ghost use Rattle.ap_defs.specs.Unification.{reduce_all};
 ghost use Rattle.ap_fresh.specs.Reduction.{added};
 ghost use Rattle.ap_store.specs.Views.{bindings_of, meaning_in};
+ghost use Rattle.ap_theory.specs.StatementsOnConditions.{collected};
 ghost use Rattle.ap_unify.specs.Finishing.{some_if};
 
 use ap_defs::memory::Memory;
@@ -27,7 +28,7 @@ pub fn reduce_closure<'a>(
     conds: &mut Vec<Cond>,
 ) -> Result<bool, Memory>
     ensures { IfOk result (λ fine. added (reduce a (meaning_in store.now c.now)) conds.old.items
-        ≡ some_if fine conds.new.items) }
+        ≡ collected (some_if fine conds.new.items)) }
 {
     match add_reduced(a, c, store, conds) {
         Ok(()) => Ok(true),
@@ -46,7 +47,7 @@ pub fn reduce_var<'a>(
     conds: &mut Vec<Cond>,
 ) -> Result<bool, Memory>
     ensures { IfOk result (λ fine. added (reduce a (under (bindings_of store.now) (susp [] x)))
-        conds.old.items ≡ some_if fine conds.new.items) }
+        conds.old.items ≡ collected (some_if fine conds.new.items)) }
 {
     match add_reduced_var(a, x, store, conds) {
         Ok(()) => Ok(true),
@@ -56,7 +57,7 @@ pub fn reduce_var<'a>(
 }
 
 /// Puts the conditions under which a name is fresh for what each of the variables stands for behind
-/// others, from the last to the first, unless it is free in one.
+/// others, unless it is free in one.
 pub fn reduce_vars<'a>(
     store: &Store<'a>,
     a: Name,
@@ -64,7 +65,7 @@ pub fn reduce_vars<'a>(
     conds: &mut Vec<Cond>,
 ) -> Result<bool, Memory>
     ensures { IfOk result (λ fine. added (reduce_all (bindings_of store.now)
-        (fresh_for_each a vars.now)) conds.old.items ≡ some_if fine conds.new.items) }
+        (fresh_for_each a vars.now)) conds.old.items ≡ collected (some_if fine conds.new.items)) }
 {
     'reducing: for i in (0..vars.len()).rev() {
         if !reduce_var(store, a, vars[i], conds)? {

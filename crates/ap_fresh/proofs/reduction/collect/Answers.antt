@@ -1,31 +1,45 @@
-use Rattle.std.proofs.Common.{rules, map, ◌≡◌, true, false, Some, ◌+◌, sym, ap, ap₂, ◌∙◌, [], ◌∷◌, ◌++◌, append_assoc, append-nil, arith, refl}
-use Rattle.ap_defs.specs.Freshness.{both}
+use Rattle.std.proofs.Common.{rules, map, ◌≡◌, true, false, true≢false, Some, ◌+◌, sym, ap, ap₂, ◌∙◌, List, [], ◌∷◌, ◌++◌, append_assoc, append-nil, arith, inl, inr, refl, subst}
+use Rattle.ap_defs.specs.Freshness.{both, reduce as by_rules}
 use Rattle.ap_defs.specs.Permutations.{act_name, inverse, name_eq}
 use Rattle.ap_defs.specs.Renaming.{rename_name, rename_swap, rename_term, rename_var}
 use Rattle.ap_defs.specs.Terms.{abs, app, pair, susp, term_of}
 use Rattle.ap_defs.specs.declared.terms.Cond.{Cond}
-use Rattle.ap_fresh.specs.Reduction.{added, pending_term}
-use Rattle.ap_fresh.proofs.PendingLemmas.{added_none, all_left, fewer, fewer_part, inner_of, inner_visits, kept, last_refuted, one_added, problem_of, two_added}
-use Rattle.ap_fresh.proofs.StepLemmas.{abs_added, abs_problem, app_problem, bound_problem, name_added, name_refuted, pair_problem, problem, unbound_problem, unit_added}
+use Rattle.ap_fresh.specs.Reduction.{pending_term}
+use Rattle.ap_fresh.specs.Sought.{was_sought}
+use Rattle.ap_fresh.specs.declared.pending.Pending.{Pending}
+use Rattle.ap_perm.specs.Closures.{lent_term}
+use Rattle.ap_perm.specs.Lookups.{carried_out}
+use Rattle.ap_fresh.proofs.PendingLemmas.{IsToldBelow, all_left, all_one, behind, cond_taken, fewer, fewer_part, in_var, inner_of, inner_visits, last_refuted, left_out, one_sought, problem_of, replaced, visits_below, visits_of, visits_swapped}
+use Rattle.ap_fresh.proofs.SetLemmas.{none_of_both, refuted_is, tells, told_same}
+use Rattle.ap_fresh.proofs.StepLemmas.{abs_problem, app_problem, binder_problem, bound_problem, moved_problem, name_problem, name_refuted, pair_problem, problem, unbound_problem, unit_problem, var_problem}
 use Rattle.ap_defs.specs.declared.terms.Name.{Name}
 use Rattle.ap_perm.proofs.VisitLemmas.{visits, visits_abs, visits_app, visits_bound, visits_pair, visits_some}
 use Rattle.ap_fresh.proofs.reduction.collect.Goals as goal
+
+pub collecting-init : goal.collecting-init
+collecting-init g c =
+    let items = c.in_ok-push.ensures.items ∙ ap (λ (xs : List Pending). xs ++ c.args.first ∷ []) c.new-left.ensures.items in (
+      (λ e. ap (λ o. tells (both o (Some c.args.conds.now.items)) e) (ap (all_left (g.L.Look.bound c.args.look.now) (g.L.Look.rank c.args.look.now) (g.met.L.Look.ranked c.args.look.now)) items ∙ all_one (g.L.Look.bound c.args.look.now) (g.L.Look.rank c.args.look.now) (g.met.L.Look.ranked c.args.look.now) c.args.first)),
+      (λ e d s t. absurd (true≢false (sym s ∙ c.new-sought.ensures d))),
+    )
 
 pub collecting-smaller-in-Unit : goal.collecting-smaller-in-Unit
 collecting-smaller-in-Unit g c = fewer (g.L.Look.bound c.args.look.now) (g.L.Look.rank c.args.look.now) (g.met.L.Look.ranked c.args.look.now) c.pop.new.self.items [] c.pop.new.self.items c.collecting.left.items c.in-Some.p c.in-Some.ensures.items (sym (append-nil c.pop.new.self.items)) (visits_some (g.L.Look.bound c.args.look.now) (g.L.Look.rank c.args.look.now) (g.met.L.Look.ranked c.args.look.now) (pending_term c.in-Some.p))
 
 pub collecting-preserved-in-Unit : goal.collecting-preserved-in-Unit
 collecting-preserved-in-Unit g c =
-    kept (g.L.Look.bound c.args.look.now) (g.L.Look.rank c.args.look.now) (g.met.L.Look.ranked c.args.look.now) c.pop.new.self.items [] c.pop.new.self.items c.collecting.left.items c.in-Some.p c.in-Some.ensures.items (sym (append-nil c.pop.new.self.items)) c.collecting.conds.items c.collecting.conds.items _
-    (sym (unit_added (g.L.Look.bound c.args.look.now) (g.L.Look.rank c.args.look.now) (g.met.L.Look.ranked c.args.look.now) c.in-Some.p.name (pending_term c.in-Some.p) c.collecting.conds.items (ap (λ z. rename_term c.in-Some.p.base (term_of z)) c.in-Unit.is))) c.collecting.invariant
+    replaced (g.L.Look.bound c.args.look.now) (g.L.Look.rank c.args.look.now) (g.met.L.Look.ranked c.args.look.now) (both (by_rules c.args.first.name (carried_out (g.L.Look.bound c.args.look.now) (g.L.Look.rank c.args.look.now) (pending_term c.args.first))) (Some c.args.conds.now.items)) (was_sought c.collecting.sought) c.pop.new.self.items [] c.pop.new.self.items c.collecting.left.items c.in-Some.p c.in-Some.ensures.items (sym (append-nil c.pop.new.self.items)) c.collecting.conds.items c.collecting.invariant
+    (unit_problem (g.L.Look.bound c.args.look.now) (g.L.Look.rank c.args.look.now) (g.met.L.Look.ranked c.args.look.now) c.in-Some.p.name (pending_term c.in-Some.p) (ap (λ z. rename_term c.in-Some.p.base (term_of z)) c.in-Unit.is)) tt
 
 pub returns-then-eq-clause-refuted : goal.returns-then-eq-clause-refuted
 unfolding name_eq
 returns-then-eq-clause-refuted g c =
     let e : name_eq c.in-Some.p.name (rename_name c.in-Some.p.base c.in-Name.b) ≡ true = search rules in
-    λ h. added_none _ c.args.conds.now.items
-    (sym c.collecting.invariant ∙ ap (λ xs. added (all_left (g.L.Look.bound c.args.look.now) (g.L.Look.rank c.args.look.now) (g.met.L.Look.ranked c.args.look.now) xs) c.collecting.conds.items) c.in-Some.ensures.items
-    ∙ last_refuted (g.L.Look.bound c.args.look.now) (g.L.Look.rank c.args.look.now) (g.met.L.Look.ranked c.args.look.now) c.pop.new.self.items c.in-Some.p c.collecting.conds.items (name_refuted (g.L.Look.bound c.args.look.now) (g.L.Look.rank c.args.look.now) (g.met.L.Look.ranked c.args.look.now) c.in-Some.p.name (rename_name c.in-Some.p.base c.in-Name.b) (pending_term c.in-Some.p) (ap (λ z. rename_term c.in-Some.p.base (term_of z)) c.in-Name.is) e))
+    let x = by_rules c.args.first.name (carried_out (g.L.Look.bound c.args.look.now) (g.L.Look.rank c.args.look.now) (pending_term c.args.first)) in
+    λ h. none_of_both x c.args.conds.now.items
+    (refuted_is (both x (Some c.args.conds.now.items))
+    (last_refuted (g.L.Look.bound c.args.look.now) (g.L.Look.rank c.args.look.now) (g.met.L.Look.ranked c.args.look.now) (both (by_rules c.args.first.name (carried_out (g.L.Look.bound c.args.look.now) (g.L.Look.rank c.args.look.now) (pending_term c.args.first))) (Some c.args.conds.now.items)) (was_sought c.collecting.sought) c.pop.new.self.items c.collecting.left.items c.in-Some.p c.collecting.conds.items c.in-Some.ensures.items
+    (name_refuted (g.L.Look.bound c.args.look.now) (g.L.Look.rank c.args.look.now) (g.met.L.Look.ranked c.args.look.now) c.in-Some.p.name (rename_name c.in-Some.p.base c.in-Name.b) (pending_term c.in-Some.p) (ap (λ z. rename_term c.in-Some.p.base (term_of z)) c.in-Name.is) e) c.collecting.invariant))
 
 pub collecting-smaller-else-eq : goal.collecting-smaller-else-eq
 collecting-smaller-else-eq g c = fewer (g.L.Look.bound c.args.look.now) (g.L.Look.rank c.args.look.now) (g.met.L.Look.ranked c.args.look.now) c.pop.new.self.items [] c.pop.new.self.items c.collecting.left.items c.in-Some.p c.in-Some.ensures.items (sym (append-nil c.pop.new.self.items)) (visits_some (g.L.Look.bound c.args.look.now) (g.L.Look.rank c.args.look.now) (g.met.L.Look.ranked c.args.look.now) (pending_term c.in-Some.p))
@@ -34,8 +48,8 @@ pub collecting-preserved-else-eq : goal.collecting-preserved-else-eq
 unfolding name_eq
 collecting-preserved-else-eq g c =
     let e : name_eq c.in-Some.p.name (rename_name c.in-Some.p.base c.in-Name.b) ≡ false = search rules in
-    kept (g.L.Look.bound c.args.look.now) (g.L.Look.rank c.args.look.now) (g.met.L.Look.ranked c.args.look.now) c.pop.new.self.items [] c.pop.new.self.items c.collecting.left.items c.in-Some.p c.in-Some.ensures.items (sym (append-nil c.pop.new.self.items)) c.collecting.conds.items c.collecting.conds.items _
-    (sym (name_added (g.L.Look.bound c.args.look.now) (g.L.Look.rank c.args.look.now) (g.met.L.Look.ranked c.args.look.now) c.in-Some.p.name (rename_name c.in-Some.p.base c.in-Name.b) (pending_term c.in-Some.p) c.collecting.conds.items (ap (λ z. rename_term c.in-Some.p.base (term_of z)) c.in-Name.is) e)) c.collecting.invariant
+    replaced (g.L.Look.bound c.args.look.now) (g.L.Look.rank c.args.look.now) (g.met.L.Look.ranked c.args.look.now) (both (by_rules c.args.first.name (carried_out (g.L.Look.bound c.args.look.now) (g.L.Look.rank c.args.look.now) (pending_term c.args.first))) (Some c.args.conds.now.items)) (was_sought c.collecting.sought) c.pop.new.self.items [] c.pop.new.self.items c.collecting.left.items c.in-Some.p c.in-Some.ensures.items (sym (append-nil c.pop.new.self.items)) c.collecting.conds.items c.collecting.invariant
+    (name_problem (g.L.Look.bound c.args.look.now) (g.L.Look.rank c.args.look.now) (g.met.L.Look.ranked c.args.look.now) c.in-Some.p.name (rename_name c.in-Some.p.base c.in-Name.b) (pending_term c.in-Some.p) (ap (λ z. rename_term c.in-Some.p.base (term_of z)) c.in-Name.is) e) tt
 
 pub collecting-smaller-in-Continue-branch-3 : goal.collecting-smaller-in-Continue-branch-3
 collecting-smaller-in-Continue-branch-3 g c =
@@ -64,8 +78,12 @@ collecting-preserved-in-Continue-branch-3 g c =
     let h : problem (g.L.Look.bound c.args.look.now) (g.L.Look.rank c.args.look.now) (g.met.L.Look.ranked c.args.look.now) c.in-Some.p.name (pending_term c.in-Some.p) ≡ both (problem_of (g.L.Look.bound c.args.look.now) (g.L.Look.rank c.args.look.now) (g.met.L.Look.ranked c.args.look.now) c.innermost.result) (problem_of (g.L.Look.bound c.args.look.now) (g.L.Look.rank c.args.look.now) (g.met.L.Look.ranked c.args.look.now) c.innermost-in-Pair.result) =
     pair_problem (g.L.Look.bound c.args.look.now) (g.L.Look.rank c.args.look.now) (g.met.L.Look.ranked c.args.look.now) c.in-Some.p.name (rename_term c.in-Some.p.base (term_of c.deref.result.now)) (rename_term c.in-Some.p.base (term_of c.deref-in-Pair.result.now)) (pending_term c.in-Some.p) e
     ∙ ap₂ both (inner_of (g.L.Look.bound c.args.look.now) (g.L.Look.rank c.args.look.now) (g.met.L.Look.ranked c.args.look.now) c.innermost.result c.in-Some.p.name (rename_term c.in-Some.p.base (term_of c.deref.result.now)) c.innermost.ensures.name c.innermost.ensures.term) (inner_of (g.L.Look.bound c.args.look.now) (g.L.Look.rank c.args.look.now) (g.met.L.Look.ranked c.args.look.now) c.innermost-in-Pair.result c.in-Some.p.name (rename_term c.in-Some.p.base (term_of c.deref-in-Pair.result.now)) c.innermost-in-Pair.ensures.name c.innermost-in-Pair.ensures.term) in
-    kept (g.L.Look.bound c.args.look.now) (g.L.Look.rank c.args.look.now) (g.met.L.Look.ranked c.args.look.now) c.pop.new.self.items qs rest c.collecting.left.items c.in-Some.p c.in-Some.ensures.items f c.collecting.conds.items c.collecting.conds.items _
-    (two_added (g.L.Look.bound c.args.look.now) (g.L.Look.rank c.args.look.now) (g.met.L.Look.ranked c.args.look.now) c.in-Some.p c.innermost.result c.innermost-in-Pair.result c.collecting.conds.items h) c.collecting.invariant
+    let k = inner_visits (g.L.Look.bound c.args.look.now) (g.L.Look.rank c.args.look.now) (g.met.L.Look.ranked c.args.look.now) c.innermost.result c.in-Some.p.name (rename_term c.in-Some.p.base (term_of c.deref.result.now)) c.innermost.ensures.term in
+    let l = inner_visits (g.L.Look.bound c.args.look.now) (g.L.Look.rank c.args.look.now) (g.met.L.Look.ranked c.args.look.now) c.innermost-in-Pair.result c.in-Some.p.name (rename_term c.in-Some.p.base (term_of c.deref-in-Pair.result.now)) c.innermost-in-Pair.ensures.term in
+    let b = visits_pair (g.L.Look.bound c.args.look.now) (g.L.Look.rank c.args.look.now) (g.met.L.Look.ranked c.args.look.now) (rename_term c.in-Some.p.base (term_of c.deref.result.now)) (rename_term c.in-Some.p.base (term_of c.deref-in-Pair.result.now)) in
+    let d : visits (g.L.Look.bound c.args.look.now) (g.L.Look.rank c.args.look.now) (pending_term c.in-Some.p) ≡ visits (g.L.Look.bound c.args.look.now) (g.L.Look.rank c.args.look.now) (pair (rename_term c.in-Some.p.base (term_of c.deref.result.now)) (rename_term c.in-Some.p.base (term_of c.deref-in-Pair.result.now))) = ap (visits (g.L.Look.bound c.args.look.now) (g.L.Look.rank c.args.look.now)) e in
+    replaced (g.L.Look.bound c.args.look.now) (g.L.Look.rank c.args.look.now) (g.met.L.Look.ranked c.args.look.now) (both (by_rules c.args.first.name (carried_out (g.L.Look.bound c.args.look.now) (g.L.Look.rank c.args.look.now) (pending_term c.args.first))) (Some c.args.conds.now.items)) (was_sought c.collecting.sought) c.pop.new.self.items qs rest c.collecting.left.items c.in-Some.p c.in-Some.ensures.items f c.collecting.conds.items c.collecting.invariant
+    (h ∙ ap (both (problem_of (g.L.Look.bound c.args.look.now) (g.L.Look.rank c.args.look.now) (g.met.L.Look.ranked c.args.look.now) c.innermost.result)) (sym (all_one (g.L.Look.bound c.args.look.now) (g.L.Look.rank c.args.look.now) (g.met.L.Look.ranked c.args.look.now) c.innermost-in-Pair.result))) (omega (arith, k, l, b, d), (omega (arith, k, l, b, d), tt))
 
 pub collecting-smaller-in-Continue-branch-4 : goal.collecting-smaller-in-Continue-branch-4
 collecting-smaller-in-Continue-branch-4 g c =
@@ -85,8 +103,11 @@ collecting-preserved-in-Continue-branch-4 g c =
     let w = c.innermost-in-App.result in
     let rest = c.push-in-App.new.self.items in
     let h : problem (g.L.Look.bound c.args.look.now) (g.L.Look.rank c.args.look.now) (g.met.L.Look.ranked c.args.look.now) c.in-Some.p.name (pending_term c.in-Some.p) ≡ problem_of (g.L.Look.bound c.args.look.now) (g.L.Look.rank c.args.look.now) (g.met.L.Look.ranked c.args.look.now) w = app_problem (g.L.Look.bound c.args.look.now) (g.L.Look.rank c.args.look.now) (g.met.L.Look.ranked c.args.look.now) c.in-Some.p.name c.in-App.field-0 (rename_term c.in-Some.p.base (term_of c.deref-in-App.result.now)) (pending_term c.in-Some.p) e ∙ inner_of (g.L.Look.bound c.args.look.now) (g.L.Look.rank c.args.look.now) (g.met.L.Look.ranked c.args.look.now) w c.in-Some.p.name (rename_term c.in-Some.p.base (term_of c.deref-in-App.result.now)) c.innermost-in-App.ensures.name c.innermost-in-App.ensures.term in
-    kept (g.L.Look.bound c.args.look.now) (g.L.Look.rank c.args.look.now) (g.met.L.Look.ranked c.args.look.now) c.pop.new.self.items (w ∷ []) rest c.collecting.left.items c.in-Some.p c.in-Some.ensures.items c.in_ok-push-in-App.ensures.items c.collecting.conds.items c.collecting.conds.items _
-    (one_added (g.L.Look.bound c.args.look.now) (g.L.Look.rank c.args.look.now) (g.met.L.Look.ranked c.args.look.now) c.in-Some.p w c.collecting.conds.items h) c.collecting.invariant
+    let b = visits_app (g.L.Look.bound c.args.look.now) (g.L.Look.rank c.args.look.now) (g.met.L.Look.ranked c.args.look.now) c.in-App.field-0 (rename_term c.in-Some.p.base (term_of c.deref-in-App.result.now)) in
+    let d : visits (g.L.Look.bound c.args.look.now) (g.L.Look.rank c.args.look.now) (pending_term c.in-Some.p) ≡ visits (g.L.Look.bound c.args.look.now) (g.L.Look.rank c.args.look.now) (app c.in-App.field-0 (rename_term c.in-Some.p.base (term_of c.deref-in-App.result.now))) = ap (visits (g.L.Look.bound c.args.look.now) (g.L.Look.rank c.args.look.now)) e in
+    let k = inner_visits (g.L.Look.bound c.args.look.now) (g.L.Look.rank c.args.look.now) (g.met.L.Look.ranked c.args.look.now) w c.in-Some.p.name (rename_term c.in-Some.p.base (term_of c.deref-in-App.result.now)) c.innermost-in-App.ensures.term in
+    replaced (g.L.Look.bound c.args.look.now) (g.L.Look.rank c.args.look.now) (g.met.L.Look.ranked c.args.look.now) (both (by_rules c.args.first.name (carried_out (g.L.Look.bound c.args.look.now) (g.L.Look.rank c.args.look.now) (pending_term c.args.first))) (Some c.args.conds.now.items)) (was_sought c.collecting.sought) c.pop.new.self.items (w ∷ []) rest c.collecting.left.items c.in-Some.p c.in-Some.ensures.items c.in_ok-push-in-App.ensures.items c.collecting.conds.items c.collecting.invariant
+    (h ∙ sym (all_one (g.L.Look.bound c.args.look.now) (g.L.Look.rank c.args.look.now) (g.met.L.Look.ranked c.args.look.now) w)) (omega (arith, k, b, d), tt)
 
 pub collecting-smaller-in-Continue-branch-5 : goal.collecting-smaller-in-Continue-branch-5
 collecting-smaller-in-Continue-branch-5 g c =
@@ -110,8 +131,11 @@ collecting-preserved-in-Continue-branch-5 g c =
     let w = c.innermost-then-ne.result in
     let rest = c.push-then-ne.new.self.items in
     let h : problem (g.L.Look.bound c.args.look.now) (g.L.Look.rank c.args.look.now) (g.met.L.Look.ranked c.args.look.now) c.in-Some.p.name (pending_term c.in-Some.p) ≡ problem_of (g.L.Look.bound c.args.look.now) (g.L.Look.rank c.args.look.now) (g.met.L.Look.ranked c.args.look.now) w = abs_problem (g.L.Look.bound c.args.look.now) (g.L.Look.rank c.args.look.now) (g.met.L.Look.ranked c.args.look.now) c.in-Some.p.name (rename_name c.in-Some.p.base B) (rename_term c.in-Some.p.base (term_of c.deref-then-ne.result.now)) (pending_term c.in-Some.p) e i ∙ inner_of (g.L.Look.bound c.args.look.now) (g.L.Look.rank c.args.look.now) (g.met.L.Look.ranked c.args.look.now) w c.in-Some.p.name (rename_term c.in-Some.p.base (term_of c.deref-then-ne.result.now)) c.innermost-then-ne.ensures.name c.innermost-then-ne.ensures.term in
-    kept (g.L.Look.bound c.args.look.now) (g.L.Look.rank c.args.look.now) (g.met.L.Look.ranked c.args.look.now) c.pop.new.self.items (w ∷ []) rest c.collecting.left.items c.in-Some.p c.in-Some.ensures.items c.in_ok-push-in-Abs.ensures.items c.collecting.conds.items c.collecting.conds.items _
-    (one_added (g.L.Look.bound c.args.look.now) (g.L.Look.rank c.args.look.now) (g.met.L.Look.ranked c.args.look.now) c.in-Some.p w c.collecting.conds.items h) c.collecting.invariant
+    let b = visits_abs (g.L.Look.bound c.args.look.now) (g.L.Look.rank c.args.look.now) (g.met.L.Look.ranked c.args.look.now) (rename_name c.in-Some.p.base B) (rename_term c.in-Some.p.base (term_of c.deref-then-ne.result.now)) in
+    let d : visits (g.L.Look.bound c.args.look.now) (g.L.Look.rank c.args.look.now) (pending_term c.in-Some.p) ≡ visits (g.L.Look.bound c.args.look.now) (g.L.Look.rank c.args.look.now) (abs (rename_name c.in-Some.p.base B) (rename_term c.in-Some.p.base (term_of c.deref-then-ne.result.now))) = ap (visits (g.L.Look.bound c.args.look.now) (g.L.Look.rank c.args.look.now)) e in
+    let k = inner_visits (g.L.Look.bound c.args.look.now) (g.L.Look.rank c.args.look.now) (g.met.L.Look.ranked c.args.look.now) w c.in-Some.p.name (rename_term c.in-Some.p.base (term_of c.deref-then-ne.result.now)) c.innermost-then-ne.ensures.term in
+    replaced (g.L.Look.bound c.args.look.now) (g.L.Look.rank c.args.look.now) (g.met.L.Look.ranked c.args.look.now) (both (by_rules c.args.first.name (carried_out (g.L.Look.bound c.args.look.now) (g.L.Look.rank c.args.look.now) (pending_term c.args.first))) (Some c.args.conds.now.items)) (was_sought c.collecting.sought) c.pop.new.self.items (w ∷ []) rest c.collecting.left.items c.in-Some.p c.in-Some.ensures.items c.in_ok-push-in-Abs.ensures.items c.collecting.conds.items c.collecting.invariant
+    (h ∙ sym (all_one (g.L.Look.bound c.args.look.now) (g.L.Look.rank c.args.look.now) (g.met.L.Look.ranked c.args.look.now) w)) (omega (arith, k, b, d), tt)
 
 pub collecting-smaller-else-ne : goal.collecting-smaller-else-ne
 collecting-smaller-else-ne g c = fewer (g.L.Look.bound c.args.look.now) (g.L.Look.rank c.args.look.now) (g.met.L.Look.ranked c.args.look.now) c.pop.new.self.items [] c.pop.new.self.items c.collecting.left.items c.in-Some.p c.in-Some.ensures.items (sym (append-nil c.pop.new.self.items)) (visits_some (g.L.Look.bound c.args.look.now) (g.L.Look.rank c.args.look.now) (g.met.L.Look.ranked c.args.look.now) (pending_term c.in-Some.p))
@@ -121,8 +145,8 @@ unfolding name_eq
 collecting-preserved-else-ne g c =
     let B : Name = record { sort = c.in-Abs.sort; num = c.in-Abs.num } in
     let e : name_eq c.in-Some.p.name (rename_name c.in-Some.p.base B) ≡ true = search rules in
-    kept (g.L.Look.bound c.args.look.now) (g.L.Look.rank c.args.look.now) (g.met.L.Look.ranked c.args.look.now) c.pop.new.self.items [] c.pop.new.self.items c.collecting.left.items c.in-Some.p c.in-Some.ensures.items (sym (append-nil c.pop.new.self.items)) c.collecting.conds.items c.collecting.conds.items _
-    (sym (abs_added (g.L.Look.bound c.args.look.now) (g.L.Look.rank c.args.look.now) (g.met.L.Look.ranked c.args.look.now) c.in-Some.p.name (rename_name c.in-Some.p.base B) (rename_term c.in-Some.p.base (term_of c.in-Abs.body.value)) (pending_term c.in-Some.p) c.collecting.conds.items (ap (λ z. rename_term c.in-Some.p.base (term_of z)) c.in-Abs.is) e)) c.collecting.invariant
+    replaced (g.L.Look.bound c.args.look.now) (g.L.Look.rank c.args.look.now) (g.met.L.Look.ranked c.args.look.now) (both (by_rules c.args.first.name (carried_out (g.L.Look.bound c.args.look.now) (g.L.Look.rank c.args.look.now) (pending_term c.args.first))) (Some c.args.conds.now.items)) (was_sought c.collecting.sought) c.pop.new.self.items [] c.pop.new.self.items c.collecting.left.items c.in-Some.p c.in-Some.ensures.items (sym (append-nil c.pop.new.self.items)) c.collecting.conds.items c.collecting.invariant
+    (binder_problem (g.L.Look.bound c.args.look.now) (g.L.Look.rank c.args.look.now) (g.met.L.Look.ranked c.args.look.now) c.in-Some.p.name (rename_name c.in-Some.p.base B) (rename_term c.in-Some.p.base (term_of c.in-Abs.body.value)) (pending_term c.in-Some.p) (ap (λ z. rename_term c.in-Some.p.base (term_of z)) c.in-Abs.is) e) tt
 
 pub collecting-smaller-in-Continue-branch-6 : goal.collecting-smaller-in-Continue-branch-6
 collecting-smaller-in-Continue-branch-6 g c = fewer (g.L.Look.bound c.args.look.now) (g.L.Look.rank c.args.look.now) (g.met.L.Look.ranked c.args.look.now) c.pop.new.self.items [] c.pop.new.self.items c.collecting.left.items c.in-Some.p c.in-Some.ensures.items (sym (append-nil c.pop.new.self.items)) (visits_some (g.L.Look.bound c.args.look.now) (g.L.Look.rank c.args.look.now) (g.met.L.Look.ranked c.args.look.now) (pending_term c.in-Some.p))
@@ -133,11 +157,33 @@ collecting-preserved-in-Continue-branch-6 g c =
     let x = rename_var c.in-Some.p.base c.in-Susp.x in
     let e : c.preimage_from-name.result ≡ act_name (inverse q) c.in-Some.p.name =
     c.preimage_from-name.ensures ∙ ap (λ r. act_name (inverse (map (rename_swap c.in-Some.p.base) r)) c.in-Some.p.name) c.items.ensures in
-    let ds = c.collecting.conds.items in
-    kept (g.L.Look.bound c.args.look.now) (g.L.Look.rank c.args.look.now) (g.met.L.Look.ranked c.args.look.now) c.pop.new.self.items [] c.pop.new.self.items c.collecting.left.items c.in-Some.p c.in-Some.ensures.items (sym (append-nil c.pop.new.self.items)) ds c.push-in-None.new.self.items _
-    (ap Some (c.in_ok-push-in-None.ensures.items ∙ ap (λ b. let n : Cond = record { name = b; var = x } in ds ++ n ∷ []) e)
-    ∙ sym (ap (λ o. added o ds) (unbound_problem (g.L.Look.bound c.args.look.now) (g.L.Look.rank c.args.look.now) (g.met.L.Look.ranked c.args.look.now) c.in-Some.p.name q x (pending_term c.in-Some.p) (ap (λ z. rename_term c.in-Some.p.base (term_of z)) c.in-Susp.is) c.in-None.ensures)))
-    c.collecting.invariant
+    let n : Cond = record { name = c.preimage_from-name.result; var = x } in
+    cond_taken (g.L.Look.bound c.args.look.now) (g.L.Look.rank c.args.look.now) (g.met.L.Look.ranked c.args.look.now) (both (by_rules c.args.first.name (carried_out (g.L.Look.bound c.args.look.now) (g.L.Look.rank c.args.look.now) (pending_term c.args.first))) (Some c.args.conds.now.items)) (was_sought c.collecting.sought) c.pop.new.self.items [] c.pop.new.self.items c.collecting.left.items c.in-Some.p c.in-Some.ensures.items (sym (append-nil c.pop.new.self.items)) c.collecting.conds.items c.collecting.invariant n c.push-in-None.new.self.items
+    (unbound_problem (g.L.Look.bound c.args.look.now) (g.L.Look.rank c.args.look.now) (g.met.L.Look.ranked c.args.look.now) c.in-Some.p.name q x (pending_term c.in-Some.p) (ap (λ z. rename_term c.in-Some.p.base (term_of z)) c.in-Susp.is) c.in-None.ensures
+    ∙ ap (λ (b : Name). let m : Cond = record { name = b; var = x } in Some (m ∷ [])) (sym e))
+    refl c.in_ok-push-in-None.ensures.items
+
+pub collecting-smaller-then-is_sought : goal.collecting-smaller-then-is_sought
+collecting-smaller-then-is_sought g c = fewer (g.L.Look.bound c.args.look.now) (g.L.Look.rank c.args.look.now) (g.met.L.Look.ranked c.args.look.now) c.pop.new.self.items [] c.pop.new.self.items c.collecting.left.items c.in-Some.p c.in-Some.ensures.items (sym (append-nil c.pop.new.self.items)) (visits_some (g.L.Look.bound c.args.look.now) (g.L.Look.rank c.args.look.now) (g.met.L.Look.ranked c.args.look.now) (pending_term c.in-Some.p))
+
+-- the name was sought in the variable
+pub collecting-preserved-then-is_sought : goal.collecting-preserved-then-is_sought
+collecting-preserved-then-is_sought g c =
+    let q = map (rename_swap c.in-Some.p.base) c.in-Susp.swaps in
+    let x = rename_var c.in-Some.p.base c.in-Susp.x in
+    let e : c.preimage_from-name.result ≡ act_name (inverse q) c.in-Some.p.name =
+    c.preimage_from-name.ensures ∙ ap (λ r. act_name (inverse (map (rename_swap c.in-Some.p.base) r)) c.in-Some.p.name) c.items.ensures in
+    let d = c.in-Some-look.c in
+    let u = rename_term d.base (term_of d.term.now) in
+    let n : Cond = record { name = c.preimage_from-name.result; var = x } in
+    let v : in_var (g.L.Look.bound c.args.look.now) (g.L.Look.rank c.args.look.now) (g.met.L.Look.ranked c.args.look.now) n ≡ problem (g.L.Look.bound c.args.look.now) (g.L.Look.rank c.args.look.now) (g.met.L.Look.ranked c.args.look.now) (act_name (inverse d.swaps.now) n.name) u =
+    var_problem (g.L.Look.bound c.args.look.now) (g.L.Look.rank c.args.look.now) (g.met.L.Look.ranked c.args.look.now) n.name x (lent_term d) c.in-Some-look.ensures ∙ moved_problem (g.L.Look.bound c.args.look.now) (g.L.Look.rank c.args.look.now) (g.met.L.Look.ranked c.args.look.now) n.name d.swaps.now u in
+    let h : problem_of (g.L.Look.bound c.args.look.now) (g.L.Look.rank c.args.look.now) (g.met.L.Look.ranked c.args.look.now) c.in-Some.p ≡ in_var (g.L.Look.bound c.args.look.now) (g.L.Look.rank c.args.look.now) (g.met.L.Look.ranked c.args.look.now) n =
+    bound_problem (g.L.Look.bound c.args.look.now) (g.L.Look.rank c.args.look.now) (g.met.L.Look.ranked c.args.look.now) c.in-Some.p.name q x d.swaps.now u (pending_term c.in-Some.p) (ap (λ z. rename_term c.in-Some.p.base (term_of z)) c.in-Susp.is) c.in-Some-look.ensures
+    ∙ ap (λ b. problem (g.L.Look.bound c.args.look.now) (g.L.Look.rank c.args.look.now) (g.met.L.Look.ranked c.args.look.now) (act_name (inverse d.swaps.now) b) u) (sym e) ∙ sym v in
+    let l : visits (g.L.Look.bound c.args.look.now) (g.L.Look.rank c.args.look.now) (pending_term c.in-Some.p) ≡ visits (g.L.Look.bound c.args.look.now) (g.L.Look.rank c.args.look.now) (susp [] x) =
+    ap (λ z. visits (g.L.Look.bound c.args.look.now) (g.L.Look.rank c.args.look.now) (rename_term c.in-Some.p.base (term_of z))) c.in-Susp.is ∙ visits_swapped (g.L.Look.bound c.args.look.now) (g.L.Look.rank c.args.look.now) (g.met.L.Look.ranked c.args.look.now) q x in
+    left_out (g.L.Look.bound c.args.look.now) (g.L.Look.rank c.args.look.now) (g.met.L.Look.ranked c.args.look.now) (both (by_rules c.args.first.name (carried_out (g.L.Look.bound c.args.look.now) (g.L.Look.rank c.args.look.now) (pending_term c.args.first))) (Some c.args.conds.now.items)) (was_sought c.collecting.sought) c.pop.new.self.items [] c.pop.new.self.items c.collecting.left.items c.in-Some.p c.in-Some.ensures.items (sym (append-nil c.pop.new.self.items)) c.collecting.conds.items c.collecting.invariant n (sym c.is_sought.ensures ∙ c.if-is_sought.true) h l refl
 
 pub collecting-smaller : goal.collecting-smaller
 collecting-smaller g c =
@@ -150,6 +196,7 @@ collecting-smaller g c =
     fewer_part (g.L.Look.bound c.args.look.now) (g.L.Look.rank c.args.look.now) (g.met.L.Look.ranked c.args.look.now) c.pop.new.self.items (c.bound.result ∷ []) c.push-in-Some-look.new.self.items c.collecting.left.items c.in-Some.p c.in-Some.ensures.items c.in_ok-push-in-Some-look.ensures.items
     c.bound.result u refl c.bound.ensures.term (omega (arith, a, b))
 
+-- it is sought there now
 pub collecting-preserved : goal.collecting-preserved
 collecting-preserved g c =
     let q = map (rename_swap c.in-Some.p.base) c.in-Susp.swaps in
@@ -158,9 +205,27 @@ collecting-preserved g c =
     c.preimage_from-name.ensures ∙ ap (λ r. act_name (inverse (map (rename_swap c.in-Some.p.base) r)) c.in-Some.p.name) c.items.ensures in
     let d = c.in-Some-look.c in
     let u = rename_term d.base (term_of d.term.now) in
-    let w = c.bound.result in
-    let h : problem (g.L.Look.bound c.args.look.now) (g.L.Look.rank c.args.look.now) (g.met.L.Look.ranked c.args.look.now) c.in-Some.p.name (pending_term c.in-Some.p) ≡ problem_of (g.L.Look.bound c.args.look.now) (g.L.Look.rank c.args.look.now) (g.met.L.Look.ranked c.args.look.now) w =
+    let n : Cond = record { name = c.preimage_from-name.result; var = x } in
+    let v : in_var (g.L.Look.bound c.args.look.now) (g.L.Look.rank c.args.look.now) (g.met.L.Look.ranked c.args.look.now) n ≡ problem (g.L.Look.bound c.args.look.now) (g.L.Look.rank c.args.look.now) (g.met.L.Look.ranked c.args.look.now) (act_name (inverse d.swaps.now) n.name) u =
+    var_problem (g.L.Look.bound c.args.look.now) (g.L.Look.rank c.args.look.now) (g.met.L.Look.ranked c.args.look.now) n.name x (lent_term d) c.in-Some-look.ensures ∙ moved_problem (g.L.Look.bound c.args.look.now) (g.L.Look.rank c.args.look.now) (g.met.L.Look.ranked c.args.look.now) n.name d.swaps.now u in
+    let h : problem_of (g.L.Look.bound c.args.look.now) (g.L.Look.rank c.args.look.now) (g.met.L.Look.ranked c.args.look.now) c.in-Some.p ≡ in_var (g.L.Look.bound c.args.look.now) (g.L.Look.rank c.args.look.now) (g.met.L.Look.ranked c.args.look.now) n =
     bound_problem (g.L.Look.bound c.args.look.now) (g.L.Look.rank c.args.look.now) (g.met.L.Look.ranked c.args.look.now) c.in-Some.p.name q x d.swaps.now u (pending_term c.in-Some.p) (ap (λ z. rename_term c.in-Some.p.base (term_of z)) c.in-Susp.is) c.in-Some-look.ensures
-    ∙ ap₂ (problem (g.L.Look.bound c.args.look.now) (g.L.Look.rank c.args.look.now) (g.met.L.Look.ranked c.args.look.now)) (sym (c.bound.ensures.name ∙ ap (act_name (inverse d.swaps.now)) e)) (sym c.bound.ensures.term) in
-    kept (g.L.Look.bound c.args.look.now) (g.L.Look.rank c.args.look.now) (g.met.L.Look.ranked c.args.look.now) c.pop.new.self.items (w ∷ []) c.push-in-Some-look.new.self.items c.collecting.left.items c.in-Some.p c.in-Some.ensures.items c.in_ok-push-in-Some-look.ensures.items c.collecting.conds.items c.collecting.conds.items _
-    (one_added (g.L.Look.bound c.args.look.now) (g.L.Look.rank c.args.look.now) (g.met.L.Look.ranked c.args.look.now) c.in-Some.p w c.collecting.conds.items h) c.collecting.invariant
+    ∙ ap (λ b. problem (g.L.Look.bound c.args.look.now) (g.L.Look.rank c.args.look.now) (g.met.L.Look.ranked c.args.look.now) (act_name (inverse d.swaps.now) b) u) (sym e) ∙ sym v in
+    let l : visits (g.L.Look.bound c.args.look.now) (g.L.Look.rank c.args.look.now) (pending_term c.in-Some.p) ≡ visits (g.L.Look.bound c.args.look.now) (g.L.Look.rank c.args.look.now) (susp [] x) =
+    ap (λ z. visits (g.L.Look.bound c.args.look.now) (g.L.Look.rank c.args.look.now) (rename_term c.in-Some.p.base (term_of z))) c.in-Susp.is ∙ visits_swapped (g.L.Look.bound c.args.look.now) (g.L.Look.rank c.args.look.now) (g.met.L.Look.ranked c.args.look.now) q x in
+    let w = c.bound.result in
+    let rest = c.push-in-Some-look.new.self.items in
+    let m : in_var (g.L.Look.bound c.args.look.now) (g.L.Look.rank c.args.look.now) (g.met.L.Look.ranked c.args.look.now) n ≡ problem_of (g.L.Look.bound c.args.look.now) (g.L.Look.rank c.args.look.now) (g.met.L.Look.ranked c.args.look.now) w = v ∙ ap₂ (problem (g.L.Look.bound c.args.look.now) (g.L.Look.rank c.args.look.now) (g.met.L.Look.ranked c.args.look.now)) (sym c.bound.ensures.name) (sym c.bound.ensures.term) in
+    let a = visits_bound (g.L.Look.bound c.args.look.now) (g.L.Look.rank c.args.look.now) (g.met.L.Look.ranked c.args.look.now) [] x d.swaps.now u c.in-Some-look.ensures in
+    let k : visits_of (g.L.Look.bound c.args.look.now) (g.L.Look.rank c.args.look.now) (g.met.L.Look.ranked c.args.look.now) w ≡ visits (g.L.Look.bound c.args.look.now) (g.L.Look.rank c.args.look.now) u = ap (visits (g.L.Look.bound c.args.look.now) (g.L.Look.rank c.args.look.now)) c.bound.ensures.term in
+    one_sought (g.L.Look.bound c.args.look.now) (g.L.Look.rank c.args.look.now) (g.met.L.Look.ranked c.args.look.now) (both (by_rules c.args.first.name (carried_out (g.L.Look.bound c.args.look.now) (g.L.Look.rank c.args.look.now) (pending_term c.args.first))) (Some c.args.conds.now.items)) (was_sought c.collecting.sought) (was_sought c.seek.new.sought) rest c.collecting.conds.items n c.in_ok-seek-in-Some-look.ensures.sought
+    (λ o t. inr (subst (IsToldBelow (g.L.Look.bound c.args.look.now) (g.L.Look.rank c.args.look.now) (g.met.L.Look.ranked c.args.look.now) o (visits_below (g.L.Look.bound c.args.look.now) (g.L.Look.rank c.args.look.now) (g.met.L.Look.ranked c.args.look.now) n)) (sym c.in_ok-push-in-Some-look.ensures.items) (behind (g.L.Look.bound c.args.look.now) (g.L.Look.rank c.args.look.now) (g.met.L.Look.ranked c.args.look.now) o (visits_below (g.L.Look.bound c.args.look.now) (g.L.Look.rank c.args.look.now) (g.met.L.Look.ranked c.args.look.now) n) c.pop.new.self.items (w ∷ []) (inl (omega (arith, a, k), ap (λ y. tells y o) (sym m) ∙ t)))))
+    (replaced (g.L.Look.bound c.args.look.now) (g.L.Look.rank c.args.look.now) (g.met.L.Look.ranked c.args.look.now) (both (by_rules c.args.first.name (carried_out (g.L.Look.bound c.args.look.now) (g.L.Look.rank c.args.look.now) (pending_term c.args.first))) (Some c.args.conds.now.items)) (was_sought c.collecting.sought) c.pop.new.self.items (w ∷ []) rest c.collecting.left.items c.in-Some.p c.in-Some.ensures.items c.in_ok-push-in-Some-look.ensures.items c.collecting.conds.items c.collecting.invariant (h ∙ m ∙ sym (all_one (g.L.Look.bound c.args.look.now) (g.L.Look.rank c.args.look.now) (g.met.L.Look.ranked c.args.look.now) w)) (omega (arith, a, k, l), tt))
+
+-- all was taken
+pub returns-clause-added : goal.returns-clause-added
+returns-clause-added g c =
+    let x = by_rules c.args.first.name (carried_out (g.L.Look.bound c.args.look.now) (g.L.Look.rank c.args.look.now) (pending_term c.args.first)) in
+    let none : c.collecting.left.items ≡ [] = search rules in
+    told_same (both x (Some c.args.conds.now.items)) (Some c.collecting.conds.items)
+    (λ e. sym (c.collecting.invariant.0 e) ∙ ap (λ (rs : List Pending). tells (both (all_left (g.L.Look.bound c.args.look.now) (g.L.Look.rank c.args.look.now) (g.met.L.Look.ranked c.args.look.now) rs) (Some c.collecting.conds.items)) e) none)

@@ -18,7 +18,7 @@ add-requires c =
     let o = reduce c.args.a (under a.bindings (closure_term c.args.t.now)) in
     let e : collected o ≡ Some c.make_set.new.conds.items =
     collected_set o c.reduce_closure.new.conds.items
-    (ap (added o) (sym c.new-conds.ensures.items) ∙ c.in_ok-reduce_closure.ensures ∙ ap (λ v. some_if v c.reduce_closure.new.conds.items) c.if-not-branch.false)
+    (ap (added o) (sym c.new-conds.ensures.items) ∙ c.in_ok-reduce_closure.ensures ∙ ap (λ v. collected (some_if v c.reduce_closure.new.conds.items)) c.if-not-branch.false)
     ∙ ap Some (sym c.make_set.ensures) in
     subst (AreOnUnbound a) (sym c.deref.ensures.value)
     (one_on_unbound a (well c.args.store.now) c.args.a (closure_term c.args.t.now) c.requires.name c.requires.term c.make_set.new.conds.items e)
@@ -29,6 +29,6 @@ returns-clause-defined c =
     let o = reduce c.args.a (under a.bindings (closure_term c.args.t.now)) in
     let e : collected o ≡ Some c.make_set.new.conds.items =
     collected_set o c.reduce_closure.new.conds.items
-    (ap (added o) (sym c.new-conds.ensures.items) ∙ c.in_ok-reduce_closure.ensures ∙ ap (λ v. some_if v c.reduce_closure.new.conds.items) c.if-not-branch.false)
+    (ap (added o) (sym c.new-conds.ensures.items) ∙ c.in_ok-reduce_closure.ensures ∙ ap (λ v. collected (some_if v c.reduce_closure.new.conds.items)) c.if-not-branch.false)
     ∙ ap Some (sym c.make_set.ensures) in
     is_reduced a (present c.add.new.self) (well c.args.store.now) o c.make_set.new.conds.items e (c.in_ok-add.ensures.present ∙ ap (λ cs. with_conditions cs a) c.deref.ensures.value)

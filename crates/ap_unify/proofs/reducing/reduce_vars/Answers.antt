@@ -4,6 +4,7 @@ use Rattle.ap_defs.specs.Terms.{susp}
 use Rattle.ap_store.specs.Views.{bindings_of}
 use Rattle.ap_unify.proofs.ReducingLemmas.{reduced_more, reduced_none}
 use Rattle.ap_unify.proofs.reducing.reduce_vars.Goals as goal
+use Rattle.ap_theory.specs.StatementsOnConditions.{collected}
 use Rattle.ap_unify.specs.Finishing.{some_if}
 
 pub returns-then-not-branch : goal.returns-then-not-branch
@@ -12,7 +13,7 @@ returns-then-not-branch c =
     let e : c.reducing.i ≡ c.reducing.i - 1 + 1 = omega arith in
     let l : c.reducing.i - 1 < length c.args.vars.now = omega arith in
     reduced_none (λ x. c.args.a # susp [] x) s c.args.vars.now c.args.conds.now.items c.reducing.conds.items c.reducing.i (c.reducing.i - 1) _ e l
-    (c.in_ok-reduce_var.ensures ∙ ap (λ v. some_if v c.reduce_var.new.conds.items) c.if-not-branch.true)
+    (c.in_ok-reduce_var.ensures ∙ ap (λ v. collected (some_if v c.reduce_var.new.conds.items)) c.if-not-branch.true)
 
 pub reducing-preserved : goal.reducing-preserved
 reducing-preserved c =
@@ -20,4 +21,4 @@ reducing-preserved c =
     let e : c.reducing.i ≡ c.reducing.i - 1 + 1 = omega arith in
     let l : c.reducing.i - 1 < length c.args.vars.now = omega arith in
     reduced_more (λ x. c.args.a # susp [] x) s c.args.vars.now c.args.conds.now.items c.reducing.conds.items c.reducing.i (c.reducing.i - 1) _ e l c.reduce_var.new.conds.items c.reducing.invariant
-    (c.in_ok-reduce_var.ensures ∙ ap (λ v. some_if v c.reduce_var.new.conds.items) c.if-not-branch.false)
+    (c.in_ok-reduce_var.ensures ∙ ap (λ v. collected (some_if v c.reduce_var.new.conds.items)) c.if-not-branch.false)
