@@ -69,7 +69,7 @@ fn inverse_of(alloc: Global, p: &[Swap]) -> Result<Vec<Swap>, Memory>
 }
 
 /// A closure on which the inverse of a permutation acts. On a name no swappings wait then, unless its number falls.
-pub fn moved_back<'a>(alloc: Global, p: &[Swap], c: Closure<'a>) -> Result<Closure<'a>, Memory>
+fn moved_back<'a>(alloc: Global, p: &[Swap], c: Closure<'a>) -> Result<Closure<'a>, Memory>
     ensures { IfOk result (λ d. closure_term d ≡ act_term (inverse p.now) (closure_term c.entry)) }
 {
     if p.is_empty() {
