@@ -14,7 +14,7 @@ ghost use Rattle.ap_store.specs.Views.{bindings_of, kinds, meaning_in, present, 
 ghost use Rattle.ap_theory.specs.Variables.{IsUnbound};
 ghost use Rattle.ap_equations.specs.Plain.{plain_term};
 ghost use Rattle.ap_rules.specs.Runs.{equation_under, problem_under, stage_under};
-ghost use Rattle.ap_rules.specs.Work.{GoOn, IsMoveFit, IsPairBelow, equations_left, move_under, pair_equation, problems_met, progress_if, work_stage};
+ghost use Rattle.ap_rules.specs.Work.{GoOn, IsMoveFit, IsMoveOf, IsPairBelow, equations_left, move_under, pair_equation, problems_met, progress_if, work_stage};
 
 use crate::plain::Plain;
 use ap_defs::memory::Memory;
@@ -200,10 +200,9 @@ fn carry_out<'a>(
 /// The rule for an equation.
 fn rule_at<'a>(alloc: Global, store: &Store<'a>, e: ClosurePair<'a>) -> Result<Move<'a>, Memory>
     requires { IsPairBelow (present store.now).next e }
-    ensures rule { IfOk result (λ m. move_under (bindings_of store.now) m
-        ≡ rule (meaning_in store.now e.entry.left) (meaning_in store.now e.entry.right)) }
-    ensures fit { IfOk result (λ m. IsMoveFit (bindings_of store.now) (present store.now).next
-        m) }
+    ensures rule { IfOk result (IsMoveOf (bindings_of store.now)
+        (rule (meaning_in store.now e.entry.left) (meaning_in store.now e.entry.right))) }
+    ensures fit { IfOk result (IsMoveFit (bindings_of store.now) (present store.now).next) }
 {
     let ClosurePair { left, right } = e;
     rule_for(alloc, store, left, right)

@@ -9,6 +9,9 @@ use crate::matching::next_match;
 use ap_defs::memory::Memory;
 use std::alloc::Global;
 
+/// How many keys are looked through from the first on, which takes no longer than to find a bucket.
+const FEW: usize = 8;
+
 /// The bucket of a key among so many and that of the wild key.
 fn bucket_of(key: u32, count: u32) -> usize
     requires { 1 ≤ count }
@@ -48,7 +51,7 @@ pub fn places_of(alloc: Global, keys: &[u32]) -> Result<Places, Memory>
 }
 
 /// The first place from a place on whose key is the wanted one or the wild one, or the number of keys
-/// where there is none. Only the places of their buckets are looked at.
+/// where there is none. Only the places of their buckets are looked at, unless there are few keys.
 pub fn next_within(keys: &[u32], places: &Places, key: u32, from: usize) -> usize
     requires few { length keys.now < 2 ^ 32 }
     requires from { from ≤ length keys.now }
@@ -58,8 +61,8 @@ pub fn next_within(keys: &[u32], places: &Places, key: u32, from: usize) -> usiz
     ensures { result ≡ from + prefix_len (λ k. not (key_agrees key k)) (drop from keys.now) }
 {
     let count = keys.len();
-    if count == 0 {
-        return from;
+    if count <= FEW {
+        return next_match(keys, key, from);
     }
     let b = bucket_of(key, count as u32);
     let start = from.max(places.starts[b].min(places.starts[0]) as usize);

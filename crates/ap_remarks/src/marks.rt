@@ -125,15 +125,36 @@ fn word_kind(word: &[u8]) -> Kind {
     }
 }
 
-/// What finds the tokens of one item after another, byte by byte.
+/// The place of the first byte from one on that is no part of a word, or the end of the text.
+fn word_end(bytes: &[u8], start: usize) -> usize {
+    let mut end = start;
+    for byte in bytes.get(start..).unwrap_or(&[]) {
+        if !matches!(class_of(*byte), Class::Word) {
+            return end;
+        }
+        end = end.saturating_add(1);
+    }
+    end
+}
+
+/// The place of the first end of a line from a place on, or the end of the text.
+fn line_end(bytes: &[u8], start: usize) -> usize {
+    let mut end = start;
+    for byte in bytes.get(start..).unwrap_or(&[]) {
+        if *byte == b'\n' {
+            return end;
+        }
+        end = end.saturating_add(1);
+    }
+    end
+}
+
+/// What finds the tokens of one item after another, each at once.
 #[derive(Drop)]
 pub(crate) struct Scanner<'t> {
     bytes: &'t [u8],
     // the tokens of the item, without its `.`
     marks: Vec<Mark>,
-    // where the word began that goes on
-    word: Option<usize>,
-    in_comment: bool,
 }
 
 impl<'t> Scanner<'t> {
@@ -142,8 +163,6 @@ impl<'t> Scanner<'t> {
         Scanner {
             bytes: text.as_bytes(),
             marks: Vec::new(alloc),
-            word: None,
-            in_comment: false,
         }
     }
 
@@ -155,17 +174,14 @@ impl<'t> Scanner<'t> {
     /// Forgets the item.
     pub(crate) fn begin_item(&mut self) {
         self.marks.clear();
-        self.word = None;
-        self.in_comment = false;
     }
 
-    fn end_word(&mut self, end: usize) -> Result<(), Memory> {
-        if let Some(start) = self.word {
-            self.word = None;
-            let kind = word_kind(self.bytes.get(start..end).unwrap_or(&[]));
-            self.marks.push(Mark::of(kind, start, end))?;
-        }
-        Ok(())
+    /// Takes the word that begins at a place, and gives the place behind it.
+    fn take_word(&mut self, start: usize) -> Result<usize, Memory> {
+        let end = word_end(self.bytes, start);
+        let kind = word_kind(self.bytes.get(start..end).unwrap_or(&[]));
+        self.marks.push(Mark::of(kind, start, end))?;
+        Ok(end)
     }
 
     /// Makes the sign that ends before a `-` one that has a goal behind it: it is `:` or `?`, unless the `-` begins `->`.
@@ -177,46 +193,33 @@ impl<'t> Scanner<'t> {
         }
     }
 
-    /// Takes the byte at a place, which is no part of a word.
-    fn take_sign(&mut self, place: usize, class: Class) -> Result<(), Memory> {
-        match class {
-            Class::Word | Class::Blank | Class::Sign(Kind::Dot) => {}
-            Class::Comment => self.in_comment = true,
+    /// Takes what begins at a place, and gives the place behind it, or none where it is the `.` of the item.
+    pub(crate) fn take(&mut self, place: usize) -> Result<Option<usize>, Memory> {
+        let next = place.saturating_add(1);
+        match class_of(self.bytes.get(place).copied().unwrap_or(b' ')) {
+            Class::Word => return Ok(Some(self.take_word(place)?)),
+            Class::Comment => return Ok(Some(line_end(self.bytes, next))),
+            Class::Sign(Kind::Dot) => return Ok(None),
+            Class::Sign(kind) => self.marks.push(Mark::of(kind, place, next))?,
             Class::Dash => self.take_dash(place),
-            Class::Sign(kind) => {
-                let end = place.saturating_add(1);
-                self.marks.push(Mark::of(kind, place, end))?;
+            Class::Blank => {}
+        }
+        Ok(Some(next))
+    }
+
+    /// Finds the tokens of the item that begins at a place, up to its `.`.
+    pub(crate) fn find(&mut self, start: usize) -> Result<(), Memory> {
+        self.begin_item();
+        let mut next = start;
+        for place in start..self.bytes.len() {
+            if place >= next {
+                match self.take(place)? {
+                    Some(behind) => next = behind,
+                    None => return Ok(()),
+                }
             }
         }
         Ok(())
-    }
-
-    /// Takes the byte at a place, and says whether it is the `.` that ends the item.
-    pub(crate) fn take(&mut self, place: usize, byte: u8) -> Result<bool, Memory> {
-        if self.in_comment {
-            self.in_comment = byte != b'\n';
-            return Ok(false);
-        }
-        let class = class_of(byte);
-        if let Class::Word = class {
-            if self.word.is_none() {
-                self.word = Some(place);
-            }
-            return Ok(false);
-        }
-        self.end_word(place)?;
-        self.take_sign(place, class)?;
-        Ok(byte == b'.')
-    }
-
-    /// Finds the tokens of the item whose bytes are those from a place up to its `.`.
-    pub(crate) fn find(&mut self, start: usize, end: usize) -> Result<(), Memory> {
-        self.begin_item();
-        let bytes = self.bytes.get(start..end).unwrap_or(&[]);
-        for (at, byte) in bytes.iter().enumerate() {
-            self.take(start.saturating_add(at), *byte)?;
-        }
-        self.end_word(end)
     }
 }
 

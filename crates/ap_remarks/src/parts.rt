@@ -2,12 +2,11 @@
 
 use crate::marks::{Kind, Mark, kind_at};
 
-/// A clause or a query: the place of its first byte and that of its `.`, whether it is a clause, and how many calls
-/// stand in the text up to its end.
+/// A clause or a query: the place of its first byte, whether it is a clause, and how many calls stand in the text up to
+/// its end.
 #[derive(Clone, Copy)]
 pub(crate) struct Part {
     pub start: usize,
-    pub end: usize,
     pub is_clause: bool,
     pub calls: usize,
 }

@@ -96,23 +96,28 @@ impl<'t> Uses<'t> {
         let mut finder = Finder::new(alloc);
         let mut scanner = Scanner::of(alloc, text);
         let mut start = 0;
-        for (place, byte) in text.as_bytes().iter().enumerate() {
-            if scanner.take(place, *byte)? {
-                self.add_item(&mut finder, scanner.marks(), start, place)?;
-                scanner.begin_item();
-                start = place.saturating_add(1);
+        let mut next = 0;
+        for place in 0..text.len() {
+            if place >= next {
+                match scanner.take(place)? {
+                    Some(behind) => next = behind,
+                    None => {
+                        self.add_item(&mut finder, scanner.marks(), start)?;
+                        scanner.begin_item();
+                        start = place.saturating_add(1);
+                    }
+                }
             }
         }
         Ok(())
     }
 
-    /// Adds the item of these tokens, and of the bytes from a place up to its `.`.
+    /// Adds the item of these tokens, which begins at a place.
     fn add_item(
         &mut self,
         finder: &mut Finder,
         marks: &[Mark],
         start: usize,
-        end: usize,
     ) -> Result<(), Memory> {
         if declares(marks) {
             return Ok(());
@@ -128,7 +133,6 @@ impl<'t> Uses<'t> {
         let calls = self.calls.len();
         self.parts.push(Part {
             start,
-            end,
             is_clause,
             calls,
         })?;

@@ -213,7 +213,7 @@ impl<'t> Warner<'t> {
         for part in &uses.parts {
             let calls = uses.calls.get(first..part.calls).unwrap_or(&[]);
             if part.is_clause || self.has_untold(calls) {
-                scanner.find(part.start, part.end)?;
+                scanner.find(part.start)?;
                 self.look_at_part(alloc, uses, scanner.marks(), part.is_clause, calls)?;
             }
             first = part.calls;

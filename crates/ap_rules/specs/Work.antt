@@ -64,6 +64,10 @@ move_under s (moves.Differ as' x) = replace [] (map (fresh_for x) as'.items)
 move_under s (moves.Bind x c g) = bind x (under s (closure_term c))
 move_under s moves.Clash = clash
 
+-- the move is what the rule says, under the bindings
+abbrev pub IsMoveOf : List Binding → Rule → Move → Type 0
+IsMoveOf s r m = move_under s m ≡ r
+
 abbrev pub IsPairBelow : ℕ → ClosurePair → Type 0
 IsPairBelow n p = IsBelow n (closure_term p.left) × IsBelow n (closure_term p.right)
 

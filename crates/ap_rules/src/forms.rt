@@ -9,7 +9,7 @@ ghost use Rattle.ap_defs.specs.Unification.{replace, rule};
 ghost use Rattle.ap_perm.specs.Closures.{closure_term, opened_term};
 ghost use Rattle.ap_store.specs.Heads.{HasForm, IsHeadVar};
 ghost use Rattle.ap_store.specs.Views.{bindings_of, meaning_in, present};
-ghost use Rattle.ap_rules.specs.Work.{IsMoveFit, move_under, opened_under};
+ghost use Rattle.ap_rules.specs.Work.{IsMoveFit, IsMoveOf, opened_under};
 
 use crate::moves::{Move, bind_unless_occurs, suspensions, swaps_of};
 use crate::pairs::ClosurePair;
@@ -34,12 +34,10 @@ fn exchanged<'a>(
         × IsBelow (present store.now).next (closure_term t) }
     requires right { (b.num < (present store.now).next)
         × IsBelow (present store.now).next (closure_term u) }
-    ensures rule { IfOk result (λ m. move_under (bindings_of store.now) m
-        ≡ replace ((meaning_in store.now t.entry ≐ act_term
-        (swap_of a b ∷ []) (meaning_in store.now u.entry)) ∷ []) ((a #
-        meaning_in store.now u.entry) ∷ [])) }
-    ensures fit { IfOk result (λ m. IsMoveFit (bindings_of store.now) (present store.now).next
-        m) }
+    ensures rule { IfOk result (IsMoveOf (bindings_of store.now)
+        (replace ((meaning_in store.now t.entry ≐ act_term (swap_of a b ∷ [])
+        (meaning_in store.now u.entry)) ∷ []) ((a # meaning_in store.now u.entry) ∷ []))) }
+    ensures fit { IfOk result (IsMoveFit (bindings_of store.now) (present store.now).next) }
 {
     let swap = [Swap {
         sort: a.sort,
@@ -64,10 +62,9 @@ fn abstractions<'a>(
         × IsBelow (present store.now).next (closure_term t) }
     requires right { (b.num < (present store.now).next)
         × IsBelow (present store.now).next (closure_term u) }
-    ensures rule { IfOk result (λ m. move_under (bindings_of store.now) m
-        ≡ rule (abs a (meaning_in store.now t.entry)) (abs b (meaning_in store.now u.entry))) }
-    ensures fit { IfOk result (λ m. IsMoveFit (bindings_of store.now) (present store.now).next
-        m) }
+    ensures rule { IfOk result (IsMoveOf (bindings_of store.now)
+        (rule (abs a (meaning_in store.now t.entry)) (abs b (meaning_in store.now u.entry)))) }
+    ensures fit { IfOk result (IsMoveFit (bindings_of store.now) (present store.now).next) }
 {
     if a == b {
         Ok(Move::One(ClosurePair { left: t, right: u }))
@@ -90,11 +87,10 @@ fn rule_for_opened<'a>(
     requires right_form { HasForm (opened_term right) }
     requires left_below { IsBelow (present store.now).next (opened_term left) }
     requires right_below { IsBelow (present store.now).next (opened_term right) }
-    ensures rule { IfOk result (λ m. move_under (bindings_of store.now) m
-        ≡ rule (opened_under (bindings_of store.now) left.entry) (opened_under
-        (bindings_of store.now) right.entry)) }
-    ensures fit { IfOk result (λ m. IsMoveFit (bindings_of store.now) (present store.now).next
-        m) }
+    ensures rule { IfOk result (IsMoveOf (bindings_of store.now)
+        (rule (opened_under (bindings_of store.now) left.entry)
+        (opened_under (bindings_of store.now) right.entry))) }
+    ensures fit { IfOk result (IsMoveFit (bindings_of store.now) (present store.now).next) }
 {
     match (left, right) {
         (Opened::Unit, Opened::Unit) => Ok(Move::Done),
@@ -134,10 +130,9 @@ fn rule_for_forms<'a>(
     requires right_form { HasForm (closure_term right) }
     requires left_below { IsBelow (present store.now).next (closure_term left) }
     requires right_below { IsBelow (present store.now).next (closure_term right) }
-    ensures rule { IfOk result (λ m. move_under (bindings_of store.now) m
-        ≡ rule (meaning_in store.now left.entry) (meaning_in store.now right.entry)) }
-    ensures fit { IfOk result (λ m. IsMoveFit (bindings_of store.now) (present store.now).next
-        m) }
+    ensures rule { IfOk result (IsMoveOf (bindings_of store.now)
+        (rule (meaning_in store.now left.entry) (meaning_in store.now right.entry))) }
+    ensures fit { IfOk result (IsMoveFit (bindings_of store.now) (present store.now).next) }
 {
     let opened_left = left.open(alloc)?;
     let opened_right = right.open(alloc)?;
@@ -155,10 +150,9 @@ fn rule_for_parts<'a>(
     requires right_form { HasForm (meaning_in store.now right) }
     requires left_below { IsBelow (present store.now).next (closure_term left) }
     requires right_below { IsBelow (present store.now).next (closure_term right) }
-    ensures rule { IfOk result (λ m. move_under (bindings_of store.now) m
-        ≡ rule (meaning_in store.now left.entry) (meaning_in store.now right.entry)) }
-    ensures fit { IfOk result (λ m. IsMoveFit (bindings_of store.now) (present store.now).next
-        m) }
+    ensures rule { IfOk result (IsMoveOf (bindings_of store.now)
+        (rule (meaning_in store.now left.entry) (meaning_in store.now right.entry))) }
+    ensures fit { IfOk result (IsMoveFit (bindings_of store.now) (present store.now).next) }
 {
     let left = store.follow(left)?;
     let right = store.follow(right)?;
@@ -177,12 +171,11 @@ fn rule_for_one<'a>(
     requires form { HasForm (meaning_in store.now c) }
     requires suspended_below { IsBelow (present store.now).next (closure_term suspended) }
     requires below { IsBelow (present store.now).next (closure_term c) }
-    ensures left { IfOk result (λ m. move_under (bindings_of store.now) m
-        ≡ rule (meaning_in store.now suspended.entry) (meaning_in store.now c.entry)) }
-    ensures right { IfOk result (λ m. move_under (bindings_of store.now) m
-        ≡ rule (meaning_in store.now c.entry) (meaning_in store.now suspended.entry)) }
-    ensures fit { IfOk result (λ m. IsMoveFit (bindings_of store.now) (present store.now).next
-        m) }
+    ensures left { IfOk result (IsMoveOf (bindings_of store.now)
+        (rule (meaning_in store.now suspended.entry) (meaning_in store.now c.entry))) }
+    ensures right { IfOk result (IsMoveOf (bindings_of store.now)
+        (rule (meaning_in store.now c.entry) (meaning_in store.now suspended.entry))) }
+    ensures fit { IfOk result (IsMoveFit (bindings_of store.now) (present store.now).next) }
 {
     let p = swaps_of(alloc, store, x, suspended)?;
     bind_unless_occurs(alloc, store, &p, x, c)
@@ -197,10 +190,9 @@ fn rule_by_heads<'a>(
 ) -> Result<Move<'a>, Memory>
     requires left_below { IsBelow (present store.now).next (closure_term left) }
     requires right_below { IsBelow (present store.now).next (closure_term right) }
-    ensures rule { IfOk result (λ m. move_under (bindings_of store.now) m
-        ≡ rule (meaning_in store.now left.entry) (meaning_in store.now right.entry)) }
-    ensures fit { IfOk result (λ m. IsMoveFit (bindings_of store.now) (present store.now).next
-        m) }
+    ensures rule { IfOk result (IsMoveOf (bindings_of store.now)
+        (rule (meaning_in store.now left.entry) (meaning_in store.now right.entry))) }
+    ensures fit { IfOk result (IsMoveFit (bindings_of store.now) (present store.now).next) }
 {
     match (store.head_var(&left), store.head_var(&right)) {
         (None, None) => rule_for_parts(alloc, store, left, right),
@@ -229,10 +221,9 @@ pub fn rule_for<'a>(
 ) -> Result<Move<'a>, Memory>
     requires left_below { IsBelow (present store.now).next (closure_term left) }
     requires right_below { IsBelow (present store.now).next (closure_term right) }
-    ensures rule { IfOk result (λ m. move_under (bindings_of store.now) m
-        ≡ rule (meaning_in store.now left.entry) (meaning_in store.now right.entry)) }
-    ensures fit { IfOk result (λ m. IsMoveFit (bindings_of store.now) (present store.now).next
-        m) }
+    ensures rule { IfOk result (IsMoveOf (bindings_of store.now)
+        (rule (meaning_in store.now left.entry) (meaning_in store.now right.entry))) }
+    ensures fit { IfOk result (IsMoveFit (bindings_of store.now) (present store.now).next) }
 {
     if has_form(&left) && has_form(&right) {
         return rule_for_forms(alloc, store, left, right);

@@ -11,7 +11,7 @@ ghost use Rattle.ap_store.specs.Heads.{IsHeadVar};
 ghost use Rattle.ap_store.specs.Marks.{HasNoVars};
 ghost use Rattle.ap_store.specs.Views.{bindings_of, meaning_in, present};
 ghost use Rattle.ap_theory.specs.Variables.{IsUnbound};
-ghost use Rattle.ap_rules.specs.Work.{IsMoveFit, move_under};
+ghost use Rattle.ap_rules.specs.Work.{IsMoveFit, IsMoveOf};
 
 use crate::pairs::ClosurePair;
 use ap_defs::memory::Memory;
@@ -69,7 +69,7 @@ fn inverse_of(alloc: Global, p: &[Swap]) -> Result<Vec<Swap>, Memory>
 }
 
 /// A closure on which the inverse of a permutation acts. On a name no swappings wait then, unless its number falls.
-pub fn moved_back<'a>(alloc: Global, p: &[Swap], c: Closure<'a>) -> Result<Closure<'a>, Memory>
+fn moved_back<'a>(alloc: Global, p: &[Swap], c: Closure<'a>) -> Result<Closure<'a>, Memory>
     ensures { IfOk result (λ d. closure_term d ≡ act_term (inverse p.now) (closure_term c.entry)) }
 {
     if p.is_empty() {
@@ -97,10 +97,9 @@ fn bind_to<'a>(
     requires below { IsBelow (present store.now).next (closure_term c) }
     requires absent { occurs x (meaning_in store.now c) ≡ false }
     requires no_vars { is_ground ≡ true → HasNoVars (meaning_in store.now c) }
-    ensures rule { IfOk result (λ m. move_under (bindings_of store.now) m
-        ≡ bind x (act_term (inverse p.now) (meaning_in store.now c.entry))) }
-    ensures fit { IfOk result (λ m. IsMoveFit (bindings_of store.now) (present store.now).next
-        m) }
+    ensures rule { IfOk result (IsMoveOf (bindings_of store.now)
+        (bind x (act_term (inverse p.now) (meaning_in store.now c.entry)))) }
+    ensures fit { IfOk result (IsMoveFit (bindings_of store.now) (present store.now).next) }
 {
     let moved = moved_back(alloc, p, c)?;
     Ok(Move::Bind(x, moved, is_ground))
@@ -118,11 +117,10 @@ pub(crate) fn bind_unless_occurs<'a>(
     requires unbound { IsUnbound (bindings_of store.now) x }
     requires swaps { AreSwapsBelow (present store.now).next p.now }
     requires below { IsBelow (present store.now).next (closure_term c) }
-    ensures rule { IfOk result (λ m. move_under (bindings_of store.now) m
-        ≡ unless_occurs x (meaning_in store.now c.entry) (act_term
-        (inverse p.now) (meaning_in store.now c.entry))) }
-    ensures fit { IfOk result (λ m. IsMoveFit (bindings_of store.now) (present store.now).next
-        m) }
+    ensures rule { IfOk result (IsMoveOf (bindings_of store.now)
+        (unless_occurs x (meaning_in store.now c.entry)
+        (act_term (inverse p.now) (meaning_in store.now c.entry)))) }
+    ensures fit { IfOk result (IsMoveFit (bindings_of store.now) (present store.now).next) }
 {
     let found = store.occurs(alloc, x, &c)?;
     if found.occurs() {
@@ -143,10 +141,9 @@ fn one_variable<'a>(
     requires right { IsHeadVar (bindings_of store.now) (meaning_in store.now right) (Some x) }
     requires left_below { IsBelow (present store.now).next (closure_term left) }
     requires right_below { IsBelow (present store.now).next (closure_term right) }
-    ensures rule { IfOk result (λ m. move_under (bindings_of store.now) m
-        ≡ rule (meaning_in store.now left.entry) (meaning_in store.now right.entry)) }
-    ensures fit { IfOk result (λ m. IsMoveFit (bindings_of store.now) (present store.now).next
-        m) }
+    ensures rule { IfOk result (IsMoveOf (bindings_of store.now)
+        (rule (meaning_in store.now left.entry) (meaning_in store.now right.entry))) }
+    ensures fit { IfOk result (IsMoveFit (bindings_of store.now) (present store.now).next) }
 {
     let p = swaps_of(alloc, store, x, left)?;
     let q = swaps_of(alloc, store, x, right)?;
@@ -168,12 +165,11 @@ fn bind_newer<'a>(
     requires newer { IsHeadVar (bindings_of store.now) (meaning_in store.now newer) (Some y) }
     requires older_below { IsBelow (present store.now).next (closure_term older) }
     requires newer_below { IsBelow (present store.now).next (closure_term newer) }
-    ensures left { IfOk result (λ m. move_under (bindings_of store.now) m
-        ≡ rule (meaning_in store.now older.entry) (meaning_in store.now newer.entry)) }
-    ensures right { IfOk result (λ m. move_under (bindings_of store.now) m
-        ≡ rule (meaning_in store.now newer.entry) (meaning_in store.now older.entry)) }
-    ensures fit { IfOk result (λ m. IsMoveFit (bindings_of store.now) (present store.now).next
-        m) }
+    ensures left { IfOk result (IsMoveOf (bindings_of store.now)
+        (rule (meaning_in store.now older.entry) (meaning_in store.now newer.entry))) }
+    ensures right { IfOk result (IsMoveOf (bindings_of store.now)
+        (rule (meaning_in store.now newer.entry) (meaning_in store.now older.entry))) }
+    ensures fit { IfOk result (IsMoveFit (bindings_of store.now) (present store.now).next) }
 {
     let q = swaps_of(alloc, store, y, newer)?;
     bind_to(alloc, store, &q, y, older, false)
@@ -192,10 +188,9 @@ pub(crate) fn suspensions<'a>(
     requires right { IsHeadVar (bindings_of store.now) (meaning_in store.now right) (Some y) }
     requires left_below { IsBelow (present store.now).next (closure_term left) }
     requires right_below { IsBelow (present store.now).next (closure_term right) }
-    ensures rule { IfOk result (λ m. move_under (bindings_of store.now) m
-        ≡ rule (meaning_in store.now left.entry) (meaning_in store.now right.entry)) }
-    ensures fit { IfOk result (λ m. IsMoveFit (bindings_of store.now) (present store.now).next
-        m) }
+    ensures rule { IfOk result (IsMoveOf (bindings_of store.now)
+        (rule (meaning_in store.now left.entry) (meaning_in store.now right.entry))) }
+    ensures fit { IfOk result (IsMoveFit (bindings_of store.now) (present store.now).next) }
 {
     if x.num == y.num {
         one_variable(alloc, store, x, left, right)

@@ -3,7 +3,7 @@ use Rattle.std.specs.Prelude.{ℕ, zero, suc, ◌+◌, ◌*◌, ◌%◌, ◌==�
 
 abbrev pub mark_after : ℕ → List ℕ → ℕ
 mark_after n [] = n
-mark_after n (b ∷ bs) = mark_after ((n * 31 + b) % 1024) bs
+mark_after n (b ∷ bs) = mark_after ((n * 207 + b) % 1024) bs
 
 -- a number below 1024 that equal words share
 abbrev pub word_mark : List ℕ → ℕ

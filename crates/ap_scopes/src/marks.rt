@@ -15,7 +15,7 @@ pub(crate) fn mark(word: &str) -> usize
     let bytes = word.as_bytes();
     let mut mark = 0;
     for byte in bytes {
-        mark = (mark * 31 + *byte as usize) % MARKS;
+        mark = (mark * 207 + *byte as usize) % MARKS;
     }
     mark
 }

@@ -22,6 +22,9 @@ use std::alloc::Global;
 // Room for so many bytes is made before an answer is written, so that few answers are moved while they are.
 const ROOM_OF_AN_ANSWER: usize = 128;
 
+// Room for so many bytes is made before the line of the totals is written, so that it is not moved meanwhile.
+const ROOM_OF_TOTALS: usize = 64;
+
 /// So many outputs of one kind in a row, whose line is not written yet.
 #[derive(Clone, Copy)]
 pub enum PendingRun {
@@ -146,7 +149,9 @@ fn write_totals(
     ensures { OnOk result (out.new.items
         ≡ out.old.items ++ totals_line query answers cuts stuck) }
 {
-    let line = format!(in alloc;
+    let mut line = String::with_capacity(alloc, ROOM_OF_TOTALS)?;
+    write!(
+        &mut line,
         "% query {query}: {answers} answers, {cuts} cut, {stuck} stuck\n"
     )?;
     out.extend_from_slice(line.as_bytes())?;
