@@ -1,4 +1,5 @@
 pub mod OccurrenceLemmas
+pub mod PlaceLemmas
 pub mod BindingLemmas
 pub mod ConditionLemmas
 pub mod SpellingLemmas

@@ -20,10 +20,6 @@ unlike_longer (c ∷ cs) (w ∷ ws) digits h l = rw (unlike_longer cs ws digits 
 pub unlike_short : (letter word : List ℕ) (n : ℕ) → length word ≤ length letter → n < 2 ^ 64 → bytes_eq (letter ++ decimal n) word ≡ false
 unlike_short letter word n l m = unlike_longer letter word (decimal n) (decimal_nonempty n m) l
 
--- a word that begins otherwise
-pub unlike_first : (letter word cs ws : List ℕ) (c w n : ℕ) → letter ≡ c ∷ cs → word ≡ w ∷ ws → nat_eq c w ≡ false → bytes_eq (letter ++ decimal n) word ≡ false
-unlike_first letter word cs ws c w n e s other = rw (e, s, other) refl
-
 none_first : (letter word : List ℕ) (words : List (List ℕ)) → ((n : ℕ) → n < 2 ^ 64 → bytes_eq (letter ++ decimal n) word ≡ false) → NoneNumbered letter words → NoneNumbered letter (word ∷ words)
 none_first letter word words own rest n m = rw (own n m) (rest n m)
 

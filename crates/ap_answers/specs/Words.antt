@@ -19,12 +19,12 @@ free_numbers letter words i n = filter (λ k. not (has_word (letter ++ decimal k
 abbrev pub numbered_words : List ℕ → List ℕ → List (List ℕ)
 numbered_words letter numbers = map (λ k. letter ++ decimal k) numbers
 
--- a letter is no word with any number
+-- no word is the letter with a number behind it
 abbrev pub NoneNumbered : List ℕ → List (List ℕ) → Type 0
 NoneNumbered letter words = (n : ℕ) → n < 2 ^ 64 → has_word (letter ++ decimal n) words ≡ false
 
 abbrev pub AreFree : List ℕ → List (List ℕ) → Free → Type 0
-AreFree letter words f = (f.numbers.items ≡ free_numbers letter words 1 f.tried) × (f.tried ≤ length words) × (f.all ≡ true → NoneNumbered letter words)
+AreFree letter words f = (f.numbers.items ≡ free_numbers letter words 1 f.tried) × (f.tried ≤ length words) × (f.none_taken ≡ true → NoneNumbered letter words)
 
 -- these are the words of the text
 abbrev pub IsTaken : List (List ℕ) → Taken → Type 0

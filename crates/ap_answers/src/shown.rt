@@ -14,7 +14,7 @@ ghost use Rattle.ap_answers.specs.Occurring.{more_names};
 use crate::bindings::{Binding, shown_bindings};
 use crate::conditions::shown_conditions;
 use crate::locals::free_names;
-use crate::occurrences::{add_names, add_vars};
+use crate::occurrences::add_names_and_vars;
 use ap_defs::goals::Local;
 use ap_defs::memory::Memory;
 use ap_defs::outcomes::Answer;
@@ -32,33 +32,27 @@ pub struct Display<'a> {
     pub conds: Vec<Cond>,
 }
 
-/// The query's free names, and then the others of the bindings, by first occurrence.
-pub fn names_of_bindings(
-    alloc: Global,
-    locals: &[Local],
-    binds: &[Binding<'_>],
-) -> Result<IndexSet<Name>, Memory>
-    ensures { IfOk result (λ names. names.keys
-        ≡ more_names (local_names zero (locals_of locals.now)) (names_of_terms
-        (terms_of_binds (binds_of binds.now)))) }
-{
-    let mut names = free_names(alloc, locals)?;
-    for bind in binds {
-        add_names(alloc, &mut names, bind.term)?;
-    }
-    Ok(names)
+/// The names and the variables of bindings.
+#[derive(Drop)]
+struct Occurring {
+    names: IndexSet<Name>,
+    vars: IndexSet<Var>,
 }
 
-/// The variables of the bindings, by first occurrence.
-pub fn vars_of_bindings(alloc: Global, binds: &[Binding<'_>]) -> Result<IndexSet<Var>, Memory>
-    ensures { IfOk result (λ vars. vars.keys
+/// The query's free names, and then the others of the bindings, and the variables of these, by first occurrence.
+fn occurring_in(alloc: Global, locals: &[Local], binds: &[Binding<'_>]) -> Result<Occurring, Memory>
+    ensures names { IfOk result (λ o. o.names.keys
+        ≡ more_names (local_names zero (locals_of locals.now)) (names_of_terms
+        (terms_of_binds (binds_of binds.now)))) }
+    ensures vars { IfOk result (λ o. o.vars.keys
         ≡ first_vars [] (vars_of_terms (terms_of_binds (binds_of binds.now)))) }
 {
+    let mut names = free_names(alloc, locals)?;
     let mut vars = IndexSet::new(alloc);
     for bind in binds {
-        add_vars(alloc, &mut vars, bind.term)?;
+        add_names_and_vars(alloc, &mut names, &mut vars, bind.term)?;
     }
-    Ok(vars)
+    Ok(Occurring { names, vars })
 }
 
 /// What is shown of an answer to a query with these identifiers.
@@ -71,8 +65,7 @@ pub fn display_of<'a>(
         (answer_of answer.now))) }
 {
     let binds = shown_bindings(alloc, locals, answer.binds.items())?;
-    let names = names_of_bindings(alloc, locals, binds.as_slice())?;
-    let vars = vars_of_bindings(alloc, binds.as_slice())?;
+    let Occurring { names, vars } = occurring_in(alloc, locals, binds.as_slice())?;
     let conds = shown_conditions(alloc, &names, &vars, answer.conds.items())?;
     Ok(Display {
         binds,

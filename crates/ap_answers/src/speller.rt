@@ -1,6 +1,7 @@
 //! How the names, variables and constructors of an answer are spelled.
 
-ghost use Rattle.std.specs.Prelude.{◌≡◌, zero, ◌++◌, Some, codes, OnOk, IfOk};
+ghost use Rattle.std.specs.Prelude.{◌≡◌, zero, ◌++◌, Some, codes, position, slice_get, OnOk, IfOk, IfSome};
+ghost use Rattle.ap_defs.specs.Freshness.{var_eq};
 ghost use Rattle.ap_defs.specs.Types.{locals_of};
 ghost use Rattle.ap_defs.specs.Goals.{program_of};
 ghost use Rattle.ap_defs.specs.Renaming.{local_names};
@@ -71,6 +72,30 @@ fn write_var_at(out: &mut Vec<u8>, texts: &VarTexts, place: usize) -> Result<(),
     }
 }
 
+/// The place that a variable has where those before it, down to the first one, have all numbers between.
+fn place_by_number(vars: &[Var], var: Var) -> Option<usize>
+    ensures { IfSome result (λ i. slice_get vars.now i ≡ Some var) }
+{
+    let first = vars.first()?;
+    let near = var.num.saturating_sub(first.num) as usize;
+    let there = vars.get(near)?;
+    if there.num == var.num {
+        Some(near)
+    } else {
+        None
+    }
+}
+
+/// The place of a variable among others. It is looked up, unless its number tells it.
+fn place_of(vars: &IndexSet<Var>, var: Var) -> Option<usize>
+    ensures { result ≡ position (var_eq var) vars.now.keys }
+{
+    match place_by_number(vars.as_slice(), var) {
+        Some(place) => Some(place),
+        None => vars.get_index_of(&var),
+    }
+}
+
 impl Speller<'_> {
     #[tactic(auto, unfolding(ap_defs::specs::Permutations::name_eq))]
     /// Writes a name. One that has no text is left out.
@@ -87,7 +112,7 @@ impl Speller<'_> {
     pub fn write_var(&self, out: &mut Vec<u8>, var: Var) -> Result<(), Memory>
         ensures { OnOk result (out.new.items ≡ out.old.items ++ (spelling_in self.now).vars var) }
     {
-        if let Some(place) = self.vars.get_index_of(&var) {
+        if let Some(place) = place_of(self.vars, var) {
             write_var_at(out, &self.var_texts, place)?;
         }
         Ok(())

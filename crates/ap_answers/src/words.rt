@@ -10,12 +10,12 @@ use ap_defs::memory::Memory;
 use std::alloc::Global;
 use std::collections::HashSet;
 
-/// The numbers from 1 up to a number with which a letter is no word of a text. If `all`, it is none with any number.
+/// The numbers up to `tried` with which a letter is no word of a text. Where `none_taken`, it is none with any number.
 #[derive(Drop)]
 pub struct Free {
     pub numbers: Vec<u64>,
     pub tried: usize,
-    pub all: bool,
+    pub none_taken: bool,
 }
 
 /// The words of a text, which are left out where words are generated. What of them begins as a generated
@@ -38,18 +38,18 @@ pub fn word_set<'a>(alloc: Global, words: &'a [Text]) -> Result<HashSet<&'a str>
     Ok(set)
 }
 
-/// Whether the word of a letter and a number is taken. It is looked up, unless all are known to be free.
+/// Whether the word of a letter and a number is taken. It is looked up, unless none is known to be.
 fn is_taken(
     alloc: Global,
     letter: &str,
     number: u64,
     taken: &HashSet<&str>,
-    all: bool,
+    none_taken: bool,
 ) -> Result<bool, Memory>
-    requires { all ≡ true → knows taken.now (letter.now ++ decimal number) ≡ false }
+    requires { none_taken ≡ true → knows taken.now (letter.now ++ decimal number) ≡ false }
     ensures { IfOk result (λ b. b ≡ knows taken.now (letter.now ++ decimal number)) }
 {
-    if all {
+    if none_taken {
         return Ok(false);
     }
     let word = format!(in alloc; "{letter}{number}")?;
@@ -63,14 +63,14 @@ fn keep_number(
     letter: &str,
     number: u64,
     taken: &HashSet<&str>,
-    all: bool,
+    none_taken: bool,
 ) -> Result<(), Memory>
-    requires { all ≡ true → knows taken.now (letter.now ++ decimal number) ≡ false }
+    requires { none_taken ≡ true → knows taken.now (letter.now ++ decimal number) ≡ false }
     ensures { OnOk result (numbers.new.items
         ≡ numbers.old.items
         ++ filter (λ n. not (knows taken.now (letter.now ++ decimal n))) (number ∷ [])) }
 {
-    if !is_taken(alloc, letter, number, taken, all)? {
+    if !is_taken(alloc, letter, number, taken, none_taken)? {
         numbers.push(number)?;
     }
     Ok(())
@@ -90,8 +90,8 @@ fn may_be_numbered(letter: &str, word: &str) -> bool
     }
 }
 
-/// Whether no word is a letter with a number, which is seen by how words begin.
-fn are_free(letter: &str, words: &[Text]) -> bool
+/// Whether no word is seen to be a letter with a number behind it, by how words begin.
+fn none_numbered(letter: &str, words: &[Text]) -> bool
     ensures { result ≡ true → NoneNumbered letter.now words.now }
 {
     for word in words {
@@ -127,15 +127,15 @@ fn free_numbers(
     ensures { IfOk result (λ f. AreFree letter.now words.now f) }
 {
     let tried = count_beginning(letter, words);
-    let all = are_free(letter, words);
+    let none_taken = none_numbered(letter, words);
     let mut numbers = Vec::new(alloc);
     for i in 0..tried {
-        keep_number(alloc, &mut numbers, letter, i as u64 + 1, taken, all)?;
+        keep_number(alloc, &mut numbers, letter, i as u64 + 1, taken, none_taken)?;
     }
     Ok(Free {
         numbers,
         tried,
-        all,
+        none_taken,
     })
 }
 
@@ -187,7 +187,14 @@ pub fn generated_numbers(
         if numbers.len() == count {
             break;
         }
-        keep_number(alloc, &mut numbers, letter, i as u64 + 1, taken, free.all)?;
+        keep_number(
+            alloc,
+            &mut numbers,
+            letter,
+            i as u64 + 1,
+            taken,
+            free.none_taken,
+        )?;
     }
     Ok(numbers)
 }

@@ -1,6 +1,6 @@
 //! Terms with all bindings carried out, in which the list of each suspension is canonical.
 
-ghost use Rattle.std.specs.Prelude.{◌≡◌, ◌≤◌, ◌<◌, ◌+◌, ◌*◌, [], true, IfOk, IfSome, OnOk};
+ghost use Rattle.std.specs.Prelude.{◌≡◌, ◌≤◌, ◌<◌, ◌+◌, ◌*◌, ◌++◌, ◌∷◌, [], true, IfOk, IfSome, MatchOption, OnOk};
 ghost use Rattle.ap_defs.specs.Canonical.{canonical, canonical_term};
 ghost use Rattle.ap_defs.specs.Substitution.{under};
 ghost use Rattle.ap_defs.specs.Terms.{NominalTerm, app, pair, susp, term_of, unit};
@@ -10,6 +10,7 @@ ghost use Rattle.ap_store.specs.Heads.{IsHeadUnbound};
 ghost use Rattle.ap_store.specs.Views.{bindings_of, meaning_in};
 ghost use Rattle.ap_store.specs.declared.store.Store.{Store};
 ghost use Rattle.ap_machine.specs.declared.closing.Part.TheVariants as parts;
+ghost use Rattle.ap_machine.specs.declared.closing.Round.TheVariants as round;
 ghost use Rattle.ap_machine.specs.Closed.{closed_part, closed_round, closed_within, part_work, round_work, rounds_work};
 
 use ap_defs::lists::Swaps;
@@ -100,6 +101,21 @@ fn paired(alloc: Global, left: Box<Term>, right: Term) -> Result<Term, Memory>
     Ok(Term::Pair(left, right))
 }
 
+/// Takes the round of a constructor off, if it is the innermost one.
+fn take_app(rounds: &mut Vec<Round<'_>>) -> Option<u32>
+    ensures { MatchOption result (rounds.new.items ≡ rounds.old.items)
+        (λ f. rounds.old.items ≡ rounds.new.items ++ round.App f ∷ []) }
+{
+    match rounds.last() {
+        Some(Round::App(f)) => {
+            let f = *f;
+            let _app = rounds.pop();
+            Some(f)
+        }
+        _ => None,
+    }
+}
+
 /// Keeps what stands right of the part that is made next, in a round with the constructor of which the pair of
 /// both is the argument, if it is one.
 #[tactic(auto, using(crate::proofs::ClosedLemmas::closed_within_last, crate::proofs::ClosedLemmas::rounds_work_last))]
@@ -114,19 +130,14 @@ fn keep_right<'a>(
         ≤ rounds_work s rounds.old.items + (2 + 3 * size (meaning_in s right.entry))) }
 {
     let waiting = Box::new(alloc, right)?;
-    match rounds.pop() {
+    match take_app(rounds) {
         None => rounds.push(Round::LeftOf(waiting))?,
-        Some(Round::App(f)) => rounds.push(Round::LeftIn(f, waiting))?,
-        Some(round) => {
-            rounds.push(round)?;
-            rounds.push(Round::LeftOf(waiting))?;
-        }
+        Some(f) => rounds.push(Round::LeftIn(f, waiting))?,
     }
     Ok(())
 }
 
-/// Keeps what stands left of the part that is made next, in a round with the constructor of which the pair of
-/// both is the argument, if it is one.
+/// Keeps what stands left of the part that is made next, likewise.
 #[tactic(auto, using(crate::proofs::ClosedLemmas::closed_within_last, crate::proofs::ClosedLemmas::rounds_work_last))]
 fn keep_left(alloc: Global, rounds: &mut Vec<Round<'_>>, left: Term) -> Result<(), Memory>
     ensures same { OnOk result ((s : Store) (t : NominalTerm) → closed_within s rounds.new.items t
@@ -135,13 +146,9 @@ fn keep_left(alloc: Global, rounds: &mut Vec<Round<'_>>, left: Term) -> Result<(
         ≤ rounds_work s rounds.old.items + 1) }
 {
     let made = Box::new(alloc, left)?;
-    match rounds.pop() {
+    match take_app(rounds) {
         None => rounds.push(Round::RightOf(made))?,
-        Some(Round::App(f)) => rounds.push(Round::RightIn(f, made))?,
-        Some(round) => {
-            rounds.push(round)?;
-            rounds.push(Round::RightOf(made))?;
-        }
+        Some(f) => rounds.push(Round::RightIn(f, made))?,
     }
     Ok(())
 }
@@ -170,12 +177,12 @@ fn leaf_of(
     ensures { IfOk result (λ o. IfSome o (λ t.
         term_of t ≡ canonical_term (meaning_in store.now c.now))) }
 {
+    // Its identifiers are below its end, which the sum below is.
     let _end = c.end;
     match c.term {
         Term::App(f, argument) => {
             if is_unit(argument) {
-                let made = constant(alloc, *f)?;
-                return Ok(Some(made));
+                return Ok(Some(constant(alloc, *f)?));
             }
             Ok(None)
         }

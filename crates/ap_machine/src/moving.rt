@@ -26,8 +26,10 @@ fn move_part<'a>(
 ) -> Result<TermPart<'a>, Memory>
     requires { none.now ≡ [] }
     ensures same { IfOk result (λ p.
-        term_in_frames (canonically_moved swaps.now) frames.new.items (term_made (canonically_moved swaps.now) p)
-        ≡ term_in_frames (canonically_moved swaps.now) frames.old.items (canonically_moved swaps.now (term_of t.now))) }
+        term_in_frames (canonically_moved swaps.now) frames.new.items
+        (term_made (canonically_moved swaps.now) p)
+        ≡ term_in_frames (canonically_moved swaps.now) frames.old.items
+        (canonically_moved swaps.now (term_of t.now))) }
     ensures less { IfOk result (λ p. term_frames_work frames.new.items + term_work p
         < term_frames_work frames.old.items + 3 * size (term_of t.now)) }
 {

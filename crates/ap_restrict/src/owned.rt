@@ -155,7 +155,7 @@ pub(crate) fn carry_owned(alloc: Global, none: &Swaps, t: Raw) -> Result<Term, M
 }
 
 /// Terms that are let go, with their swappings carried out. All suspensions on which none wait share these.
-pub fn carry_own_terms(alloc: Global, ts: List<Raw>) -> Result<List<Term>, Memory>
+pub(crate) fn carry_own_terms(alloc: Global, ts: List<Raw>) -> Result<List<Term>, Memory>
     ensures { IfOk result (λ us. map term_of us ≡ map carried_out (map raw_of ts)) }
 {
     let none = Swaps::none(alloc)?;

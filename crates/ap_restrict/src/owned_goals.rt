@@ -1,6 +1,6 @@
 //! Swappings, carried out in goals that are let go meanwhile.
 
-ghost use Rattle.std.specs.Prelude.{◌≡◌, [], map, IfOk};
+ghost use Rattle.std.specs.Prelude.{◌≡◌, [], IfOk};
 ghost use Rattle.ap_defs.specs.Goals.{equal, goal_of, goal_over};
 ghost use Rattle.ap_defs.specs.RawTerms.{raw_of};
 ghost use Rattle.ap_program.specs.CarryingOut.{carried_out, map_goal};
@@ -138,7 +138,7 @@ fn carry_owned_goal(alloc: Global, none: &Swaps, g: Goal<Raw>) -> Result<Goal<Te
 
 /// A goal that is let go, with the swappings of its terms carried out. All suspensions on which none wait share
 /// these.
-pub fn carry_own_goal(alloc: Global, g: Goal<Raw>) -> Result<Goal<Term>, Memory>
+pub(crate) fn carry_own_goal(alloc: Global, g: Goal<Raw>) -> Result<Goal<Term>, Memory>
     ensures { IfOk result (λ h. goal_of h ≡ map_goal carried_out (goal_over raw_of g)) }
 {
     let none = Swaps::none(alloc)?;

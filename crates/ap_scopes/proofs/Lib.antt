@@ -6,4 +6,5 @@ pub mod Orders
 pub mod TreeSizes
 pub mod MarkLemmas
 pub mod LayerLemmas
+pub mod OwnedLemmas
 pub mod FewLemmas

@@ -18,7 +18,7 @@ use crate::terms::{resolved_term, resolved_terms};
 use ap_defs::goals::Goal;
 use ap_defs::memory::Memory;
 use ap_defs::terms::{Name, Raw, Var};
-use ap_spines::{GoalLayer, close_goal};
+use ap_spines::{GoalLayer, both_layer, close_goal, either_layer};
 use ap_trees::{Binder, GoalTree, Tree};
 use std::alloc::Global;
 
@@ -160,13 +160,13 @@ fn innermost_goal<'a>(
                 return resolved_fresh(alloc, declared, scope, left, right, found);
             }
             GoalTree::Both(left, right) => {
-                layers.push(GoalLayer::Both(resolved_goal(alloc, declared, scope, left, found)?))?;
+                let left = resolved_goal(alloc, declared, scope, left, found)?;
+                layers.push(both_layer(alloc, left)?)?;
                 rest = right;
             }
             GoalTree::Either(left, right) => {
-                layers.push(GoalLayer::Either(resolved_goal(
-                    alloc, declared, scope, left, found,
-                )?))?;
+                let left = resolved_goal(alloc, declared, scope, left, found)?;
+                layers.push(either_layer(alloc, left)?)?;
                 rest = right;
             }
             GoalTree::Exists(word, inner) => {

@@ -15,6 +15,7 @@ pub mod identifiers;
 pub mod item_flaws;
 mod marks;
 pub mod numbers;
+pub mod owned;
 pub mod terms;
 pub mod text_words;
 pub mod types;

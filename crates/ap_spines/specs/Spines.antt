@@ -21,8 +21,8 @@ raw_within [] t = t
 raw_within (l ∷ ls) t = raw_in l (raw_within ls t)
 
 abbrev pub raw_goal_in : GoalLayer → GoalOver RawTerm → GoalOver RawTerm
-raw_goal_in (around_goal.Both g) h = goals.both (goal_over raw_of g) h
-raw_goal_in (around_goal.Either g) h = goals.either (goal_over raw_of g) h
+raw_goal_in (around_goal.Both g) h = goals.both (goal_over raw_of g.value) h
+raw_goal_in (around_goal.Either g) h = goals.either (goal_over raw_of g.value) h
 raw_goal_in (around_goal.Exists x) h = goals.exists x h
 raw_goal_in (around_goal.New a) h = goals.new a h
 

@@ -6,7 +6,7 @@
 
 ghost use Rattle.std.specs.Prelude.{◌≡◌, IfOk};
 ghost use Rattle.ap_defs.specs.RawTerms.{RawTerm, raw_of, pair, abs, swapped};
-ghost use Rattle.ap_defs.specs.Goals.{goal_over};
+ghost use Rattle.ap_defs.specs.Goals.{GoalOver, both, either, goal_over};
 ghost use Rattle.ap_spines.specs.Spines.{raw_in, raw_within, raw_goal_in, raw_goal_within};
 
 use ap_defs::goals::Goal;
@@ -26,11 +26,11 @@ pub enum RawLayer {
 }
 
 /// What stands round a part of a goal: the part is right of a goal and `,` or `;`, or the body of
-/// `exists` or `new`.
+/// `exists` or `new`. There are as many as a conjunction is long, so one is small.
 #[derive(Drop)]
 pub enum GoalLayer {
-    Both(Goal<Raw>),
-    Either(Goal<Raw>),
+    Both(Box<Goal<Raw>>),
+    Either(Box<Goal<Raw>>),
     Exists(Var),
     New(Name),
 }
@@ -85,19 +85,29 @@ pub fn close_raw(alloc: Global, mut layers: Vec<RawLayer>, t: Raw) -> Result<Raw
     Ok(made)
 }
 
+/// A goal that stands left of `,`, as a layer.
+pub fn both_layer(alloc: Global, left: Goal<Raw>) -> Result<GoalLayer, Memory>
+    ensures { IfOk result (λ l. (g : GoalOver RawTerm) →
+        raw_goal_in l g ≡ both (goal_over raw_of left) g) }
+{
+    Ok(GoalLayer::Both(Box::new(alloc, left)?))
+}
+
+/// A goal that stands left of `;`, as a layer.
+pub fn either_layer(alloc: Global, left: Goal<Raw>) -> Result<GoalLayer, Memory>
+    ensures { IfOk result (λ l. (g : GoalOver RawTerm) →
+        raw_goal_in l g ≡ either (goal_over raw_of left) g) }
+{
+    Ok(GoalLayer::Either(Box::new(alloc, left)?))
+}
+
 /// A goal in a layer.
 fn goal_in(alloc: Global, layer: GoalLayer, g: Goal<Raw>) -> Result<Goal<Raw>, Memory>
     ensures { IfOk result (λ h. goal_over raw_of h ≡ raw_goal_in layer (goal_over raw_of g)) }
 {
     match layer {
-        GoalLayer::Both(left) => {
-            let left = Box::new(alloc, left)?;
-            Ok(Goal::Both(left, Box::new(alloc, g)?))
-        }
-        GoalLayer::Either(left) => {
-            let left = Box::new(alloc, left)?;
-            Ok(Goal::Either(left, Box::new(alloc, g)?))
-        }
+        GoalLayer::Both(left) => Ok(Goal::Both(left, Box::new(alloc, g)?)),
+        GoalLayer::Either(left) => Ok(Goal::Either(left, Box::new(alloc, g)?)),
         GoalLayer::Exists(x) => Ok(Goal::Exists(x, Box::new(alloc, g)?)),
         GoalLayer::New(a) => Ok(Goal::New(a, Box::new(alloc, g)?)),
     }

@@ -13,7 +13,7 @@ pub enum AtEnd {
 }
 
 impl AtEnd {
-    /// What becomes of the last answer of a query. Others come behind it, unless the query is the last one.
+    /// What becomes of the last answer of a query. Other queries come behind it, unless it is the last one.
     pub fn of_query(self, is_last: bool) -> AtEnd {
         if is_last { self } else { AtEnd::Dropped }
     }

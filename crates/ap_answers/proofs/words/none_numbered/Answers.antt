@@ -1,6 +1,6 @@
 use Rattle.std.proofs.Common.{arith}
 use Rattle.ap_answers.proofs.NumberedLemmas.{none_left, none_next}
-use Rattle.ap_answers.proofs.words.are_free.Goals as goal
+use Rattle.ap_answers.proofs.words.none_numbered.Goals as goal
 
 pub loop-word-preserved : goal.loop-word-preserved
 loop-word-preserved c =

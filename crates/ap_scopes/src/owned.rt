@@ -1,0 +1,312 @@
+//! Terms and goals with numbers for their words, whose trees are let go meanwhile, so that their memory is used again
+//! at once.
+ghost use Rattle.std.specs.Prelude.{◌≡◌, [], IfOk, OnOk, map};
+ghost use Rattle.std.specs.Option.{option_map};
+ghost use Rattle.ap_defs.specs.Goals.{goal_over};
+ghost use Rattle.ap_defs.specs.RawTerms.{raw_of};
+ghost use Rattle.ap_trees.specs.Goals.{Atom, Equation};
+ghost use Rattle.ap_trees.specs.Trees.{goal_of_tree, term_of, trees_of};
+ghost use Rattle.ap_scopes.specs.Owned.{right_goal, right_part, right_side, taken_goal_of, taken_tree_of};
+ghost use Rattle.ap_scopes.specs.Resolution as spec;
+ghost use Rattle.ap_scopes.specs.Views.{IsIndexed, IsSmall, IsNumbered, declared_of, found_of, scope_of};
+
+use crate::declarations::Declarations;
+use crate::goals::resolved_goal;
+use crate::identifiers::{Brought, Identifiers};
+use crate::terms::resolved_term;
+use ap_defs::goals::Goal;
+use ap_defs::lists::List;
+use ap_defs::memory::Memory;
+use ap_defs::terms::Raw;
+use ap_spines::{RawLayer, both_layer, close_goal, close_raw, either_layer};
+use ap_trees::{GoalTree, Tree};
+use std::alloc::Global;
+use std::mem;
+
+/// A tree, taken apart: a list cell, a pair, or one that stays whole.
+#[derive(Drop)]
+enum TakenTree<'a> {
+    Cell(Tree<'a>, Tree<'a>),
+    Pair(Tree<'a>, Tree<'a>),
+    Whole(Tree<'a>),
+}
+
+/// The tree of a goal, taken apart: two goals, an equation, or one that stays whole.
+#[derive(Drop)]
+enum TakenGoal<'a> {
+    Both(GoalTree<'a>, GoalTree<'a>),
+    Either(GoalTree<'a>, GoalTree<'a>),
+    Equal(Tree<'a>, Tree<'a>),
+    Whole(GoalTree<'a>),
+}
+
+/// Takes the right part of a cell or of a pair.
+fn take_right<'a>(tree: &mut Tree<'a>) -> Tree<'a>
+    ensures { term_of result ≡ right_part tree.old }
+{
+    match tree {
+        Tree::Cell(_, right) => mem::replace(&mut **right, Tree::Unit),
+        Tree::Pair(_, right) => mem::replace(&mut **right, Tree::Unit),
+        _ => Tree::Unit,
+    }
+}
+
+/// A tree, taken apart.
+fn tree_apart<'a>(tree: Tree<'a>) -> TakenTree<'a>
+    ensures { taken_tree_of result ≡ term_of tree.entry }
+{
+    let mut whole = tree;
+    match &mut whole {
+        Tree::Cell(head, _) => {
+            let head = mem::replace(&mut **head, Tree::Unit);
+            return TakenTree::Cell(head, take_right(&mut whole));
+        }
+        Tree::Pair(left, _) => {
+            let left = mem::replace(&mut **left, Tree::Unit);
+            return TakenTree::Pair(left, take_right(&mut whole));
+        }
+        _ => {}
+    }
+    TakenTree::Whole(whole)
+}
+
+/// What is left where a goal was. It takes no memory.
+fn no_goal<'a>(alloc: Global) -> GoalTree<'a>
+    ensures { goal_of_tree result ≡ Atom [] [] }
+{
+    GoalTree::Atom("", List::of(Vec::new(alloc)))
+}
+
+/// Takes the goal right of `,` or `;`.
+fn take_back<'a>(alloc: Global, goal: &mut GoalTree<'a>) -> GoalTree<'a>
+    ensures { goal_of_tree result ≡ right_goal (goal_of_tree goal.old) }
+{
+    match goal {
+        GoalTree::Both(_, right) => mem::replace(&mut **right, no_goal(alloc)),
+        GoalTree::Either(_, right) => mem::replace(&mut **right, no_goal(alloc)),
+        _ => no_goal(alloc),
+    }
+}
+
+/// Takes the right side of an equation.
+fn take_side<'a>(goal: &mut GoalTree<'a>) -> Tree<'a>
+    ensures { term_of result ≡ right_side (goal_of_tree goal.old) }
+{
+    match goal {
+        GoalTree::Equal(_, right) => mem::replace(right, Tree::Unit),
+        _ => Tree::Unit,
+    }
+}
+
+/// The tree of a goal, taken apart.
+fn goal_apart<'a>(alloc: Global, goal: GoalTree<'a>) -> TakenGoal<'a>
+    ensures { taken_goal_of result ≡ goal_of_tree goal.entry }
+{
+    let mut whole = goal;
+    match &mut whole {
+        GoalTree::Both(left, _) => {
+            let left = mem::replace(&mut **left, no_goal(alloc));
+            return TakenGoal::Both(left, take_back(alloc, &mut whole));
+        }
+        GoalTree::Either(left, _) => {
+            let left = mem::replace(&mut **left, no_goal(alloc));
+            return TakenGoal::Either(left, take_back(alloc, &mut whole));
+        }
+        GoalTree::Equal(left, _) => {
+            let left = mem::replace(left, Tree::Unit);
+            return TakenGoal::Equal(left, take_side(&mut whole));
+        }
+        _ => {}
+    }
+    TakenGoal::Whole(whole)
+}
+
+/// A left part with numbers for its words. Its tree is let go.
+fn own_part<'a>(
+    alloc: Global,
+    declared: &Declarations<'_>,
+    scope: &Brought<'_, 'a>,
+    tree: Tree<'a>,
+    found: &mut Identifiers<'a>,
+) -> Result<Raw, Memory>
+    requires indexed { IsIndexed declared.now }
+    requires small { IsSmall declared.now }
+    requires numbered { IsNumbered found.old }
+    ensures value { IfOk result (λ t. (raw_of t, found_of found.new)
+        ≡ spec.resolved_term (declared_of declared.now) (scope_of scope.now)
+        (term_of tree.entry) (found_of found.old)) }
+    ensures numbered { OnOk result (IsNumbered found.new) }
+{
+    let made = resolved_term(alloc, declared, scope, &tree, found)?;
+    drop(tree);
+    Ok(made)
+}
+
+/// A term with numbers for its words, whose tree is let go part by part. `Err` is want of memory.
+#[tactic(auto, using(crate::proofs::Orders::made_is))]
+fn own_term<'a>(
+    alloc: Global,
+    declared: &Declarations<'_>,
+    scope: &Brought<'_, 'a>,
+    tree: Tree<'a>,
+    found: &mut Identifiers<'a>,
+) -> Result<Raw, Memory>
+    requires indexed { IsIndexed declared.now }
+    requires small { IsSmall declared.now }
+    requires numbered { IsNumbered found.old }
+    ensures value { IfOk result (λ t. (raw_of t, found_of found.new)
+        ≡ spec.resolved_term (declared_of declared.now) (scope_of scope.now)
+        (term_of tree.entry) (found_of found.old)) }
+    ensures numbered { OnOk result (IsNumbered found.new) }
+{
+    let mut layers = Vec::new(alloc);
+    let mut rest = tree;
+    'resolving: loop {
+        match tree_apart(rest) {
+            TakenTree::Cell(head, tail) => {
+                layers.push(RawLayer::Cell(own_part(alloc, declared, scope, head, found)?))?;
+                rest = tail;
+            }
+            TakenTree::Pair(left, right) => {
+                layers.push(RawLayer::Left(own_part(alloc, declared, scope, left, found)?))?;
+                rest = right;
+            }
+            TakenTree::Whole(last) => {
+                let last = own_part(alloc, declared, scope, last, found)?;
+                return close_raw(alloc, layers, last);
+            }
+        }
+    }
+}
+
+/// Terms with numbers for their words, whose trees are let go. `Err` is want of memory.
+pub fn own_terms<'a>(
+    alloc: Global,
+    declared: &Declarations<'_>,
+    scope: &Brought<'_, 'a>,
+    trees: List<Tree<'a>>,
+    found: &mut Identifiers<'a>,
+) -> Result<List<Raw>, Memory>
+    requires indexed { IsIndexed declared.now }
+    requires small { IsSmall declared.now }
+    requires numbered { IsNumbered found.old }
+    ensures value { IfOk result (λ ts. (map raw_of ts, found_of found.new)
+        ≡ spec.resolved_terms (declared_of declared.now) (scope_of scope.now)
+        (trees_of trees.entry) (found_of found.old)) }
+    ensures numbered { OnOk result (IsNumbered found.new) }
+{
+    let trees = trees.into_vec();
+    let mut terms = Vec::with_capacity(alloc, trees.len())?;
+    for tree in trees {
+        terms.push(own_term(alloc, declared, scope, tree, found)?)?;
+    }
+    Ok(List::of(terms))
+}
+
+/// A goal left of `,` or `;` with numbers for its words. Its tree is let go.
+fn own_front<'a>(
+    alloc: Global,
+    declared: &Declarations<'_>,
+    scope: &Brought<'_, 'a>,
+    goal: GoalTree<'a>,
+    found: &mut Identifiers<'a>,
+) -> Result<Goal<Raw>, Memory>
+    requires indexed { IsIndexed declared.now }
+    requires small { IsSmall declared.now }
+    requires numbered { IsNumbered found.old }
+    ensures value { IfOk result (λ g. (goal_over raw_of g, found_of found.new)
+        ≡ spec.resolved_goal (declared_of declared.now) (scope_of scope.now)
+        (goal_of_tree goal.entry) (found_of found.old)) }
+    ensures numbered { OnOk result (IsNumbered found.new) }
+{
+    let made = resolved_goal(alloc, declared, scope, &goal, found)?;
+    drop(goal);
+    Ok(made)
+}
+
+/// `t = u` with numbers for its words, whose trees are let go.
+#[tactic(auto, using(crate::proofs::Orders::made_is, crate::proofs::Orders::in_order_is))]
+fn own_sides<'a>(
+    alloc: Global,
+    declared: &Declarations<'_>,
+    scope: &Brought<'_, 'a>,
+    left: Tree<'a>,
+    right: Tree<'a>,
+    found: &mut Identifiers<'a>,
+) -> Result<Goal<Raw>, Memory>
+    requires indexed { IsIndexed declared.now }
+    requires small { IsSmall declared.now }
+    requires numbered { IsNumbered found.old }
+    ensures value { IfOk result (λ g. (goal_over raw_of g, found_of found.new)
+        ≡ spec.resolved_goal (declared_of declared.now) (scope_of scope.now)
+        (Equation (term_of left.entry) (term_of right.entry)) (found_of found.old)) }
+    ensures numbered { OnOk result (IsNumbered found.new) }
+{
+    let left = own_term(alloc, declared, scope, left, found)?;
+    let right = own_term(alloc, declared, scope, right, found)?;
+    Ok(Goal::Equal(left, right))
+}
+
+/// A goal with numbers for its words, whose tree is let go part by part. `Err` is want of memory.
+#[tactic(auto, using(crate::proofs::Orders::made_is))]
+pub fn own_goal<'a>(
+    alloc: Global,
+    declared: &Declarations<'_>,
+    scope: &Brought<'_, 'a>,
+    goal: GoalTree<'a>,
+    found: &mut Identifiers<'a>,
+) -> Result<Goal<Raw>, Memory>
+    requires indexed { IsIndexed declared.now }
+    requires small { IsSmall declared.now }
+    requires numbered { IsNumbered found.old }
+    ensures value { IfOk result (λ g. (goal_over raw_of g, found_of found.new)
+        ≡ spec.resolved_goal (declared_of declared.now) (scope_of scope.now)
+        (goal_of_tree goal.entry) (found_of found.old)) }
+    ensures numbered { OnOk result (IsNumbered found.new) }
+{
+    let mut layers = Vec::new(alloc);
+    let mut rest = goal;
+    'resolving: loop {
+        match goal_apart(alloc, rest) {
+            TakenGoal::Both(left, right) => {
+                let left = own_front(alloc, declared, scope, left, found)?;
+                layers.push(both_layer(alloc, left)?)?;
+                rest = right;
+            }
+            TakenGoal::Either(left, right) => {
+                let left = own_front(alloc, declared, scope, left, found)?;
+                layers.push(either_layer(alloc, left)?)?;
+                rest = right;
+            }
+            TakenGoal::Equal(left, right) => {
+                let last = own_sides(alloc, declared, scope, left, right, found)?;
+                return close_goal(alloc, layers, last);
+            }
+            TakenGoal::Whole(last) => {
+                let last = own_front(alloc, declared, scope, last, found)?;
+                return close_goal(alloc, layers, last);
+            }
+        }
+    }
+}
+
+/// The body of a clause, whose tree is let go; a fact has none.
+pub fn own_body<'a>(
+    alloc: Global,
+    declared: &Declarations<'_>,
+    body: Option<GoalTree<'a>>,
+    found: &mut Identifiers<'a>,
+) -> Result<Goal<Raw>, Memory>
+    requires indexed { IsIndexed declared.now }
+    requires small { IsSmall declared.now }
+    requires numbered { IsNumbered found.old }
+    ensures value { IfOk result (λ g. (goal_over raw_of g, found_of found.new)
+        ≡ spec.resolved_body (declared_of declared.now) (option_map goal_of_tree body.entry)
+        (found_of found.old)) }
+    ensures numbered { OnOk result (IsNumbered found.new) }
+{
+    match body {
+        None => Ok(Goal::True),
+        Some(body) => own_goal(alloc, declared, &Brought::Nothing, body, found),
+    }
+}
