@@ -2,7 +2,7 @@
 //! exit status.
 #![tactic(auto)]
 
-use ap_beside::{Counting, Remembering, given_words, keep_memory, say};
+use ap_beside::{Counting, Remembering, given_words, keep_memory, reads_on_first_thread, say};
 use ap_io::{NoGate, StdSink, StdSource};
 use ap_remarks::Tally;
 use ap_top::{Status, top};
@@ -11,7 +11,7 @@ use std::sync::Wait;
 use std::thread::{Builder, Threads};
 use std::{io, thread};
 
-// The stack of the thread that does the work. The terms of a stated instance, or of a proof that is covered,
+// The stack of the thread that does the work, but for runs. The terms of a stated instance, or of a proof that is covered,
 // may be as deep as a search goes, and a walk down their left parts takes a frame a level. Memory is taken
 // only for what is used of it.
 const STACK: usize = 1 << 30;
@@ -30,8 +30,8 @@ fn reads_bundle(words: &[String]) -> bool {
     command == "check" || command == "convert" || command == "cover"
 }
 
-/// Whether the report has lines of totals. A bundle has none of its own.
-fn writes_totals(words: &[String]) -> bool {
+/// Whether a text is run. Its report has lines of totals; a bundle has none of its own.
+fn runs_text(words: &[String]) -> bool {
     command(words) == "run"
 }
 
@@ -51,7 +51,7 @@ fn run<R: Threads + Wait + Sync + AllocGlobal + Input + Print + Eprint>(
     let mut sink = Counting::new(StdSink::new(io::writer(rt)));
     let status = top(rt, alloc, words, &mut source, &mut sink, &NoGate);
     let counted = sink.tally();
-    let tally = if writes_totals(words) {
+    let tally = if runs_text(words) {
         counted
     } else {
         Tally::new()
@@ -60,17 +60,28 @@ fn run<R: Threads + Wait + Sync + AllocGlobal + Input + Print + Eprint>(
     status
 }
 
+/// Runs it on a thread with a large stack, where one can be started.
+fn run_aside<R: Threads + Wait + Sync + AllocGlobal + Input + Print + Eprint>(
+    rt: &R,
+    words: &[String],
+) -> Status {
+    thread::scope(thread::scope_env(), rt, |scope| {
+        let large = Builder::new().stack_size(STACK);
+        match large.spawn_scoped(scope, || run(rt, words)) {
+            Ok(worker) => worker.join(rt),
+            Err(_) => run(rt, words),
+        }
+    })
+}
+
 fn main(rt: HostRuntime) -> ExitCode {
     let Ok(words) = given_words(&rt) else {
         return ExitCode::from(Status::Memory.code());
     };
-    let status = thread::scope(thread::scope_env(), &rt, |scope| {
-        let large = Builder::new().stack_size(STACK);
-        match large.spawn_scoped(scope, || run(&rt, &words)) {
-            Ok(worker) => worker.join(&rt),
-            // No thread with such a stack can be started.
-            Err(_) => run(&rt, &words),
-        }
-    });
+    let status = if runs_text(&words) && reads_on_first_thread() {
+        run(&rt, &words)
+    } else {
+        run_aside(&rt, &words)
+    };
     ExitCode::from(status.code())
 }
