@@ -11,9 +11,9 @@ use std::sync::Wait;
 use std::thread::{Builder, Threads};
 use std::{io, thread};
 
-// The stack of the thread that does the work, but for runs. The terms of a stated instance, or of a proof that is covered,
-// may be as deep as a search goes, and a walk down their left parts takes a frame a level. Memory is taken
-// only for what is used of it.
+// The stack of the thread that does the work, but for runs. The terms of a stated instance, or of a proof that
+// is covered, may be as deep as a search goes, and a walk down their left parts takes a frame a level. Memory
+// is taken only for what is used of it.
 const STACK: usize = 1 << 30;
 
 /// The word that names the command.
@@ -60,28 +60,20 @@ fn run<R: Threads + Wait + Sync + AllocGlobal + Input + Print + Eprint>(
     status
 }
 
-/// Runs it on a thread with a large stack, where one can be started.
-fn run_aside<R: Threads + Wait + Sync + AllocGlobal + Input + Print + Eprint>(
-    rt: &R,
-    words: &[String],
-) -> Status {
-    thread::scope(thread::scope_env(), rt, |scope| {
-        let large = Builder::new().stack_size(STACK);
-        match large.spawn_scoped(scope, || run(rt, words)) {
-            Ok(worker) => worker.join(rt),
-            Err(_) => run(rt, words),
-        }
-    })
-}
-
 fn main(rt: HostRuntime) -> ExitCode {
     let Ok(words) = given_words(&rt) else {
         return ExitCode::from(Status::Memory.code());
     };
-    let status = if runs_text(&words) && reads_on_first_thread() {
-        run(&rt, &words)
-    } else {
-        run_aside(&rt, &words)
-    };
+    if runs_text(&words) && reads_on_first_thread() {
+        return ExitCode::from(run(&rt, &words).code());
+    }
+    let status = thread::scope(thread::scope_env(), &rt, |scope| {
+        let large = Builder::new().stack_size(STACK);
+        match large.spawn_scoped(scope, || run(&rt, &words)) {
+            Ok(worker) => worker.join(&rt),
+            // No thread with such a stack can be started.
+            Err(_) => run(&rt, &words),
+        }
+    });
     ExitCode::from(status.code())
 }

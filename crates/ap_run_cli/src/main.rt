@@ -11,7 +11,7 @@ use std::sync::Wait;
 use std::thread::{Builder, Threads};
 use std::{io, thread};
 
-// The stack of a thread that does the work where the first one has too little. Memory is taken only for
+// The stack of the thread that does the work where the first one has too little. Memory is taken only for
 // what is used of it.
 const STACK: usize = 1 << 30;
 
@@ -37,28 +37,20 @@ fn run<R: Threads + Wait + Sync + AllocGlobal + Input + Print + Eprint>(
     status
 }
 
-/// Runs it on a thread with a large stack, where one can be started.
-fn run_aside<R: Threads + Wait + Sync + AllocGlobal + Input + Print + Eprint>(
-    rt: &R,
-    words: &[String],
-) -> Status {
-    thread::scope(thread::scope_env(), rt, |scope| {
-        let large = Builder::new().stack_size(STACK);
-        match large.spawn_scoped(scope, || run(rt, words)) {
-            Ok(worker) => worker.join(rt),
-            Err(_) => run(rt, words),
-        }
-    })
-}
-
 fn main(rt: HostRuntime) -> ExitCode {
     let Ok(words) = given_words(&rt) else {
         return ExitCode::from(Status::Memory.code());
     };
-    let status = if reads_on_first_thread() {
-        run(&rt, &words)
-    } else {
-        run_aside(&rt, &words)
-    };
+    if reads_on_first_thread() {
+        return ExitCode::from(run(&rt, &words).code());
+    }
+    let status = thread::scope(thread::scope_env(), &rt, |scope| {
+        let large = Builder::new().stack_size(STACK);
+        match large.spawn_scoped(scope, || run(&rt, &words)) {
+            Ok(worker) => worker.join(&rt),
+            // No thread with such a stack can be started.
+            Err(_) => run(&rt, &words),
+        }
+    });
     ExitCode::from(status.code())
 }
