@@ -14,5 +14,5 @@ pub use counting::Counting;
 pub use memory::keep_memory;
 pub use remembering::Remembering;
 pub use saying::say;
-pub use stack::reads_on_first_thread;
+pub use stack::is_stack_large;
 pub use words::given_words;

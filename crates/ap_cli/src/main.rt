@@ -2,7 +2,7 @@
 //! exit status.
 #![tactic(auto)]
 
-use ap_beside::{Counting, Remembering, given_words, keep_memory, reads_on_first_thread, say};
+use ap_beside::{Counting, Remembering, given_words, is_stack_large, keep_memory, say};
 use ap_io::{NoGate, StdSink, StdSource};
 use ap_remarks::Tally;
 use ap_top::{Status, top};
@@ -64,7 +64,7 @@ fn main(rt: HostRuntime) -> ExitCode {
     let Ok(words) = given_words(&rt) else {
         return ExitCode::from(Status::Memory.code());
     };
-    if runs_text(&words) && reads_on_first_thread() {
+    if runs_text(&words) && is_stack_large() {
         return ExitCode::from(run(&rt, &words).code());
     }
     let status = thread::scope(thread::scope_env(), &rt, |scope| {

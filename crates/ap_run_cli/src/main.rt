@@ -3,7 +3,7 @@
 //! commands, so it is sooner proved.
 #![tactic(auto)]
 
-use ap_beside::{Counting, Remembering, given_words, keep_memory, reads_on_first_thread, say};
+use ap_beside::{Counting, Remembering, given_words, is_stack_large, keep_memory, say};
 use ap_io::{NoGate, StdSink, StdSource};
 use ap_run::{AtEnd, Status};
 use std::process::ExitCode;
@@ -41,7 +41,7 @@ fn main(rt: HostRuntime) -> ExitCode {
     let Ok(words) = given_words(&rt) else {
         return ExitCode::from(Status::Memory.code());
     };
-    if reads_on_first_thread() {
+    if is_stack_large() {
         return ExitCode::from(run(&rt, &words).code());
     }
     let status = thread::scope(thread::scope_env(), &rt, |scope| {
