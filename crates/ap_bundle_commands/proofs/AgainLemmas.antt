@@ -13,7 +13,8 @@ use Rattle.ap_report.proofs.SoundTexts.{text_typed}
 use Rattle.ap_verdicts.specs.Proofs.{program_proofs, proofs_bundle}
 use Rattle.ap_verdicts.proofs.SoundnessLemmas.{none_refused, proofs_check}
 use Rattle.ap_bundle_commands.specs.CheckLaws.{ProofsAreChecked, VersionsAreCheckedAlike}
-use Rattle.ap_bundle_commands.specs.CheckReports.{IsReadReport, check_report, checked_report, verdicts_report}
+use Rattle.ap_bundle_reports.specs.BundleReports.{check_report, checked_report, verdicts_report}
+use Rattle.ap_bundle_commands.specs.CheckReports.{IsReadReport}
 
 pub proofs_again : ProofsAreChecked
 proofs_again v depth text p is fits room =

@@ -4,13 +4,14 @@ use Rattle.ap_bundle.specs.declared.faults.BundleFault.{BundleFault}
 use Rattle.ap_bundle.specs.Bundles.{NominalBundle}
 use Rattle.ap_bundle.specs.Reading.{cited_reading, reading}
 use Rattle.ap_bundle.specs.Written.{written_as}
+use Rattle.ap_bundle_reports.specs.BundleReports.{written_report}
 use Rattle.ap_bundle_commands.specs.CheckReports.{IsReadReport}
 use Rattle.ap_bundle_laws.proofs.CitedLemmas.{read_is_cited}
 use Rattle.ap_bundle_laws.proofs.RangedLemmas.{reading_fits}
 use Rattle.ap_bundle_laws.proofs.VersionLemmas.{cited_again, read_again, room_in}
 use Rattle.ap_report.specs.declared.report.Report.{Report}
 use Rattle.ap_bundle_commands.specs.ConvertLaws.{ConvertedBack, ConvertedIsCheckedAlike, ConvertedIsRead, WrittenIsConverted}
-use Rattle.ap_bundle_commands.specs.ConvertReports.{IsConvertReport, convert_report, written_report}
+use Rattle.ap_bundle_commands.specs.ConvertReports.{IsConvertReport, convert_report}
 
 pub there : WrittenIsConverted
 there from to b fits room = sym (ap (convert_report to) (read_again from b fits room))

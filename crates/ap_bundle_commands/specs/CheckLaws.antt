@@ -9,7 +9,8 @@ use Rattle.ap_bundle_laws.specs.Laws.{FitsBundle, HasRoomEach, HasRoomEachIn}
 use Rattle.ap_report.specs.declared.report.Report.{Report}
 use Rattle.ap_text.specs.Texts.{IsProgramOfText}
 use Rattle.ap_verdicts.specs.Proofs.{program_proofs, proofs_bundle}
-use Rattle.ap_bundle_commands.specs.CheckReports.{IsCheckReport, checked_report}
+use Rattle.ap_bundle_reports.specs.BundleReports.{checked_report}
+use Rattle.ap_bundle_commands.specs.CheckReports.{IsCheckReport}
 
 -- what is written, in either version, of all answers of a program, with their derivations, is checked whole
 abbrev pub ProofsAreChecked : Type 0

@@ -4,10 +4,11 @@ use Rattle.ap_bundle.specs.Bundles.{NominalBundle}
 use Rattle.ap_bundle.specs.Reading.{reading}
 use Rattle.ap_bundle.specs.Written.{written_as}
 use Rattle.ap_bundle.specs.declared.version.Version.{Version}
+use Rattle.ap_bundle_reports.specs.BundleReports.{written_report}
 use Rattle.ap_bundle_commands.specs.CheckReports.{IsCheckReport}
 use Rattle.ap_bundle_laws.specs.Laws.{FitsBundle, HasRoom, HasRoomEachIn, HasRoomIn}
 use Rattle.ap_report.specs.declared.report.Report.{Report}
-use Rattle.ap_bundle_commands.specs.ConvertReports.{IsConvertReport, written_report}
+use Rattle.ap_bundle_commands.specs.ConvertReports.{IsConvertReport}
 
 -- what is written in one version becomes what is written in the other
 abbrev pub WrittenIsConverted : Type 0

@@ -2,16 +2,10 @@
 use Rattle.std.specs.Prelude.{◌≡◌, ℕ, List, Result, Ok, Err}
 use Rattle.ap_bundle.specs.Bundles.{NominalBundle}
 use Rattle.ap_bundle.specs.Reading.{reading}
-use Rattle.ap_bundle.specs.Written.{written_as}
 use Rattle.ap_bundle.specs.declared.faults.BundleFault.{BundleFault}
 use Rattle.ap_bundle.specs.declared.version.Version.{Version}
-use Rattle.ap_bundle_commands.specs.CheckReports.{bundle_fault_report}
+use Rattle.ap_bundle_reports.specs.BundleReports.{bundle_fault_report, written_report}
 use Rattle.ap_report.specs.declared.report.Report.{Report}
-use Rattle.ap_report.specs.declared.status.Status.TheVariants as status
-
--- the report of a bundle in this version
-abbrev pub written_report : Version → NominalBundle → Report
-written_report to b = record { bytes = written_as to b; status = status.Ok }
 
 -- the report on what was read
 abbrev pub convert_report : Version → Result NominalBundle BundleFault → Report

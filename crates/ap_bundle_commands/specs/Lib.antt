@@ -1,10 +1,5 @@
-pub mod CheckLines
-pub mod Refusals
 pub mod CheckReports
 pub mod CheckLaws
 pub mod ConvertReports
 pub mod ConvertLaws
-pub mod Uncovered
-pub mod CoverLines
 pub mod CoverReports
-pub mod Searched

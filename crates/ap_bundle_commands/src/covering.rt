@@ -6,9 +6,5 @@
 //! elsewhere.
 
 mod cover;
-mod lines;
-mod proofs;
-mod searched;
-mod uncovered;
 
 pub use cover::cover_bytes;

@@ -8,6 +8,6 @@ pub mod checking;
 pub mod converting;
 mod covering;
 
-pub use checking::{bundle_fault_report, check_bytes, report_of_refused};
+pub use checking::check_bytes;
 pub use converting::convert_bytes;
 pub use covering::cover_bytes;

@@ -4,3 +4,4 @@ pub mod FreeLemmas
 pub mod NewNameLemmas
 pub mod AnswerLemmas
 pub mod WalkLemmas
+mod VerdictLemmas

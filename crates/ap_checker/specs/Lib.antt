@@ -2,3 +2,4 @@ pub mod Rules
 pub mod Tables
 pub mod Walks
 pub mod NewNames
+pub mod Refusals

@@ -10,6 +10,7 @@ mod fits;
 mod free;
 mod new_names;
 mod nodes;
+pub mod refusals;
 pub mod rules;
 pub mod verify;
 mod visits;

@@ -1,17 +1,14 @@
 //! The rules of a node, each as a test.
 
 ghost use Rattle.std.specs.Prelude.{◌≡◌, IfOk};
-ghost use Rattle.ap_checks.specs.Checks.{are_different, equal_each, is_fresh};
-ghost use Rattle.ap_judge.specs.Closures.{scoped_term, scoped_terms};
-ghost use Rattle.ap_judge.specs.Tables.{AreStandingIn};
+ghost use Rattle.ap_checks.specs.Checks.{are_different, is_fresh};
+ghost use Rattle.ap_judge.specs.Closures.{scoped_term};
 
 use ap_defs::memory::Memory;
 use ap_defs::terms::Name;
-use ap_judge::closures::{Closure, Head, ScopedTerms, head_at};
-use ap_judge::equality::are_equal_at;
+use ap_judge::closures::{Closure, Head, head_at};
 use ap_judge::freshness::is_fresh_at;
 use ap_judge::index::IndexedAnswer;
-use ap_shared::arena::SharedTerms;
 use std::alloc::Global;
 use std::collections::BTreeSet;
 
@@ -22,34 +19,6 @@ pub(crate) fn all_differ(alloc: Global, names: &[Name]) -> Result<bool, Memory>
     let mut seen = BTreeSet::new(alloc);
     for i in (0..names.len()).rev() {
         if !seen.insert((names[i].sort, names[i].num))? {
-            return Ok(false);
-        }
-    }
-    Ok(true)
-}
-
-/// Whether the terms equal the others under the conditions, one by one. Lines that are cited are of this
-/// table.
-#[tactic(auto, using(crate::proofs::NodeLemmas::lengths_differ, crate::proofs::NodeLemmas::equal_not, crate::proofs::NodeLemmas::equal_later))]
-pub(crate) fn all_equal(
-    alloc: Global,
-    answer: &IndexedAnswer<'_>,
-    terms: &SharedTerms,
-    left: ScopedTerms<'_>,
-    right: ScopedTerms<'_>,
-) -> Result<bool, Memory>
-    requires left { AreStandingIn terms.now left.scope.standing.now }
-    requires right { AreStandingIn terms.now right.scope.standing.now }
-    ensures { IfOk result (λ yes. yes ≡
-        equal_each answer.now.conds (scoped_terms left.entry) (scoped_terms right.entry)) }
-{
-    if left.terms.len() != right.terms.len() {
-        return Ok(false);
-    }
-    for i in 0..left.terms.len() {
-        let t = Closure::Within(left.scope, &left.terms[i]);
-        let u = Closure::Within(right.scope, &right.terms[i]);
-        if !are_equal_at(alloc, answer, terms, t, u)? {
             return Ok(false);
         }
     }

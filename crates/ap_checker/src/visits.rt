@@ -6,8 +6,8 @@ ghost use Rattle.ap_defs.specs.Goals as goals;
 ghost use Rattle.ap_defs.specs.Goals.{NominalProgram, clause_of, goal_of, program_of};
 ghost use Rattle.ap_defs.specs.Terms.{NominalTerm, term_of};
 ghost use Rattle.ap_defs.specs.Types.{NominalKind};
-ghost use Rattle.ap_checks.specs.Checks.{Refusal, equal_each, first_refusal, tests_by_clause};
-ghost use Rattle.ap_checks.specs.OpenEnvironments.{open_environment, put_in};
+ghost use Rattle.ap_checks.specs.Checks.{Refusal, first_refusal, tests_by_clause};
+ghost use Rattle.ap_checks.specs.OpenEnvironments.{put_in};
 ghost use Rattle.ap_checker.specs.Rules.{node_refused};
 ghost use Rattle.ap_judge.specs.Scopes.{environment_of};
 ghost use Rattle.ap_judge.specs.Tables.{AreStandingIn};
@@ -20,14 +20,14 @@ ghost use Rattle.ap_shared.specs.SharedViews.{shared_answer, shared_derivation, 
 
 use crate::fits::{counts_fit, names_fit, term_fits, terms_fit};
 use crate::new_names::is_new;
-use crate::nodes::{all_differ, all_equal, is_name_fresh};
+use crate::nodes::{all_differ, is_name_fresh};
 use crate::rules::Rule;
 use crate::walk::{Obligation, Walk};
 use ap_defs::goals::{Clause, Goal, Program};
 use ap_defs::memory::Memory;
 use ap_defs::terms::{Name, Term, Var};
 use ap_judge::cited::{Cited, CitedTerms};
-use ap_judge::closures::{Closure, Scope, ScopedTerms};
+use ap_judge::closures::{Closure, Scope};
 use ap_judge::equality::are_equal_at;
 use ap_judge::identifiers::Identifiers;
 use ap_judge::index::IndexedAnswer;
@@ -37,46 +37,8 @@ use ap_judge::typing::Typed;
 use ap_shared::arena::SharedTerms;
 use ap_shared::derivations::SharedDerivation;
 use ap_shared::places::{Given, Shared};
+use ap_sides::heads::{Use, is_head_equal};
 use std::alloc::Global;
-
-/// A clause as a node uses it: its number, the names and terms for its free identifiers, and the
-/// derivation of its body.
-#[derive(Clone, Copy)]
-struct Use<'a> {
-    number: u32,
-    names: &'a [Name],
-    given: Given<'a>,
-    body: &'a SharedDerivation,
-}
-
-/// Whether an atom's arguments equal those of a clause's head, as a node uses the clause.
-fn is_head_equal<'a>(
-    alloc: Global,
-    answer: &IndexedAnswer<'_>,
-    standing: &[Standing<'_>],
-    args: &[Term],
-    used: &Use<'a>,
-    clause: &'a Clause<Term>,
-) -> Result<bool, Memory>
-    requires { AreStandingIn used.now.given.terms.now standing.now }
-    ensures { IfOk result (λ yes. yes ≡ equal_each answer.now.conds
-        (map (put_in (environment_of standing.now)) (map term_of args.now))
-        (map (put_in (open_environment (clause_of clause.now).locals used.now.names.now
-        (given_terms used.now.given))) (clause_of clause.now).args)) }
-{
-    let own = Identifiers::of(alloc, clause.locals.items())?;
-    let given = CitedTerms::Lines(used.given);
-    let scope = [Standing::Clause(own, used.names, given)];
-    let head = ScopedTerms {
-        scope: Scope { standing: &scope },
-        terms: clause.args.items(),
-    };
-    let args = ScopedTerms {
-        scope: Scope { standing },
-        terms: args,
-    };
-    all_equal(alloc, answer, used.given.terms, args, head)
-}
 
 /// The least rule that refuses an atom's node by a clause, if one does.
 fn rule_of_clause<'a>(

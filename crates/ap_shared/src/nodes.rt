@@ -1,5 +1,5 @@
 // The derivation that nodes are. Derivations wait on a stack, the last of it the first.
-ghost use Rattle.std.specs.Prelude.{◌≡◌, ◌∷◌, List as list, map, IfOk, Some};
+ghost use Rattle.std.specs.Prelude.{◌≡◌, ◌∷◌, List as list, map, IfOk};
 ghost use Rattle.std.specs.Option.{option_map};
 ghost use Rattle.ap_defs.specs.Derivations as derivation;
 ghost use Rattle.ap_defs.specs.Derivations.{NominalDerivation};
@@ -32,152 +32,134 @@ pub enum SharedNode {
     New(Box<Name>),
 }
 
-/// The first derivation, taken off.
-fn first_derivation(stack: &mut Vec<SharedDerivation>) -> Option<SharedDerivation>
-    ensures { option_map
-        (λ d. (derivation_lines d, stacked derivation_lines stack.new.items)) result
-        ≡ forms.first (stacked derivation_lines stack.old.items) }
-{
-    stack.pop()
-}
-
-fn left_onto(
+/// The first derivation, taken off, in a box.
+fn first_in_box(
     alloc: Global,
-    stack: Vec<SharedDerivation>,
-) -> Result<Option<Vec<SharedDerivation>>, Memory>
-    ensures { IfOk result (λ r. option_map (λ v. stacked derivation_lines v.items) r
-        ≡ tree.over_first derivation.left (stacked derivation_lines stack.items)) }
+    stack: &mut Vec<SharedDerivation>,
+) -> Result<Option<Box<SharedDerivation>>, Memory>
+    ensures { IfOk result (λ r. option_map
+        (λ d. (derivation_lines d.value, stacked derivation_lines stack.new.items)) r
+        ≡ forms.first (stacked derivation_lines stack.old.items)) }
 {
-    let mut stack = stack;
-    let Some(child) = first_derivation(&mut stack) else {
-        return Ok(None);
-    };
-    let child = Box::new(alloc, child)?;
-    stack.push(SharedDerivation::Left(child))?;
-    Ok(Some(stack))
+    match stack.pop() {
+        Some(first) => Ok(Some(Box::new(alloc, first)?)),
+        None => Ok(None),
+    }
 }
 
-fn right_onto(
+/// A node over the first derivation.
+fn left_over(
     alloc: Global,
-    stack: Vec<SharedDerivation>,
-) -> Result<Option<Vec<SharedDerivation>>, Memory>
-    ensures { IfOk result (λ r. option_map (λ v. stacked derivation_lines v.items) r
-        ≡ tree.over_first derivation.right (stacked derivation_lines stack.items)) }
+    stack: &mut Vec<SharedDerivation>,
+) -> Result<Option<SharedDerivation>, Memory>
+    ensures { IfOk result (λ r.
+        option_map (λ d. derivation_lines d ∷ stacked derivation_lines stack.new.items) r
+        ≡ tree.over_first derivation.left (stacked derivation_lines stack.old.items)) }
 {
-    let mut stack = stack;
-    let Some(child) = first_derivation(&mut stack) else {
-        return Ok(None);
-    };
-    let child = Box::new(alloc, child)?;
-    stack.push(SharedDerivation::Right(child))?;
-    Ok(Some(stack))
+    match first_in_box(alloc, stack)? {
+        Some(child) => Ok(Some(SharedDerivation::Left(child))),
+        None => Ok(None),
+    }
 }
 
-fn atom_onto(
+fn right_over(
+    alloc: Global,
+    stack: &mut Vec<SharedDerivation>,
+) -> Result<Option<SharedDerivation>, Memory>
+    ensures { IfOk result (λ r.
+        option_map (λ d. derivation_lines d ∷ stacked derivation_lines stack.new.items) r
+        ≡ tree.over_first derivation.right (stacked derivation_lines stack.old.items)) }
+{
+    match first_in_box(alloc, stack)? {
+        Some(child) => Ok(Some(SharedDerivation::Right(child))),
+        None => Ok(None),
+    }
+}
+
+fn atom_over(
     alloc: Global,
     used: Box<SharedUse>,
-    stack: Vec<SharedDerivation>,
-) -> Result<Option<Vec<SharedDerivation>>, Memory>
-    ensures { IfOk result (λ r. option_map (λ v. stacked derivation_lines v.items) r
+    stack: &mut Vec<SharedDerivation>,
+) -> Result<Option<SharedDerivation>, Memory>
+    ensures { IfOk result (λ r.
+        option_map (λ d. derivation_lines d ∷ stacked derivation_lines stack.new.items) r
         ≡ tree.over_first
         (derivation.atom used.value.clause used.value.names used.value.terms)
-        (stacked derivation_lines stack.items)) }
+        (stacked derivation_lines stack.old.items)) }
 {
-    let mut stack = stack;
-    let Some(body) = first_derivation(&mut stack) else {
-        return Ok(None);
-    };
-    let body = Box::new(alloc, body)?;
-    stack.push(SharedDerivation::Atom(used, body))?;
-    Ok(Some(stack))
+    match first_in_box(alloc, stack)? {
+        Some(child) => Ok(Some(SharedDerivation::Atom(used, child))),
+        None => Ok(None),
+    }
 }
 
-fn exists_onto(
+fn exists_over(
     alloc: Global,
     line: usize,
-    stack: Vec<SharedDerivation>,
-) -> Result<Option<Vec<SharedDerivation>>, Memory>
-    ensures { IfOk result (λ r. option_map (λ v. stacked derivation_lines v.items) r
-        ≡ tree.over_first (derivation.exists line) (stacked derivation_lines stack.items)) }
+    stack: &mut Vec<SharedDerivation>,
+) -> Result<Option<SharedDerivation>, Memory>
+    ensures { IfOk result (λ r.
+        option_map (λ d. derivation_lines d ∷ stacked derivation_lines stack.new.items) r
+        ≡ tree.over_first (derivation.exists line) (stacked derivation_lines stack.old.items)) }
 {
-    let mut stack = stack;
-    let Some(child) = first_derivation(&mut stack) else {
-        return Ok(None);
-    };
-    let child = Box::new(alloc, child)?;
-    stack.push(SharedDerivation::Exists(line, child))?;
-    Ok(Some(stack))
+    match first_in_box(alloc, stack)? {
+        Some(child) => Ok(Some(SharedDerivation::Exists(line, child))),
+        None => Ok(None),
+    }
 }
 
-fn new_onto(
+fn new_over(
     alloc: Global,
     name: Box<Name>,
-    stack: Vec<SharedDerivation>,
-) -> Result<Option<Vec<SharedDerivation>>, Memory>
-    ensures { IfOk result (λ r. option_map (λ v. stacked derivation_lines v.items) r
-        ≡ tree.over_first (derivation.new name.value) (stacked derivation_lines stack.items)) }
+    stack: &mut Vec<SharedDerivation>,
+) -> Result<Option<SharedDerivation>, Memory>
+    ensures { IfOk result (λ r.
+        option_map (λ d. derivation_lines d ∷ stacked derivation_lines stack.new.items) r
+        ≡ tree.over_first (derivation.new name.value) (stacked derivation_lines stack.old.items)) }
 {
-    let mut stack = stack;
-    let Some(child) = first_derivation(&mut stack) else {
-        return Ok(None);
-    };
-    let child = Box::new(alloc, child)?;
-    stack.push(SharedDerivation::New(name, child))?;
-    Ok(Some(stack))
+    match first_in_box(alloc, stack)? {
+        Some(child) => Ok(Some(SharedDerivation::New(name, child))),
+        None => Ok(None),
+    }
 }
 
-fn both_onto(
+fn both_over(
     alloc: Global,
-    stack: Vec<SharedDerivation>,
-) -> Result<Option<Vec<SharedDerivation>>, Memory>
-    ensures { IfOk result (λ r. option_map (λ v. stacked derivation_lines v.items) r
-        ≡ tree.over_two (stacked derivation_lines stack.items)) }
+    stack: &mut Vec<SharedDerivation>,
+) -> Result<Option<SharedDerivation>, Memory>
+    ensures { IfOk result (λ r.
+        option_map (λ d. derivation_lines d ∷ stacked derivation_lines stack.new.items) r
+        ≡ tree.over_two (stacked derivation_lines stack.old.items)) }
 {
-    let mut stack = stack;
-    let Some(left) = first_derivation(&mut stack) else {
+    let Some(left) = first_in_box(alloc, stack)? else {
         return Ok(None);
     };
-    let Some(right) = first_derivation(&mut stack) else {
-        return Ok(None);
-    };
-    let left = Box::new(alloc, left)?;
-    let right = Box::new(alloc, right)?;
-    stack.push(SharedDerivation::Both(left, right))?;
-    Ok(Some(stack))
+    match first_in_box(alloc, stack)? {
+        Some(right) => Ok(Some(SharedDerivation::Both(left, right))),
+        None => Ok(None),
+    }
 }
 
-/// A derivation without children, before the others.
-fn leaf_onto(
-    leaf: SharedDerivation,
-    stack: Vec<SharedDerivation>,
-) -> Result<Option<Vec<SharedDerivation>>, Memory>
-    ensures { IfOk result (λ r. option_map (λ v. stacked derivation_lines v.items) r
-        ≡ Some (derivation_lines leaf ∷ stacked derivation_lines stack.items)) }
-{
-    let mut stack = stack;
-    stack.push(leaf)?;
-    Ok(Some(stack))
-}
-
-/// A node before derivations, of which it takes its children.
-fn node_onto(
+/// The derivation that a node is over those on the stack, of which it takes its children.
+fn node_over(
     alloc: Global,
     node: SharedNode,
-    stack: Vec<SharedDerivation>,
-) -> Result<Option<Vec<SharedDerivation>>, Memory>
-    ensures { IfOk result (λ r. option_map (λ v. stacked derivation_lines v.items) r
-        ≡ tree.node_onto (node_by_lines node) (stacked derivation_lines stack.items)) }
+    stack: &mut Vec<SharedDerivation>,
+) -> Result<Option<SharedDerivation>, Memory>
+    ensures { IfOk result (λ r.
+        option_map (λ d. derivation_lines d ∷ stacked derivation_lines stack.new.items) r
+        ≡ tree.node_onto (node_by_lines node) (stacked derivation_lines stack.old.items)) }
 {
     match node {
-        SharedNode::Atom(used) => atom_onto(alloc, used, stack),
-        SharedNode::Eq => leaf_onto(SharedDerivation::Eq, stack),
-        SharedNode::Fresh => leaf_onto(SharedDerivation::Fresh, stack),
-        SharedNode::True => leaf_onto(SharedDerivation::True, stack),
-        SharedNode::And => both_onto(alloc, stack),
-        SharedNode::Left => left_onto(alloc, stack),
-        SharedNode::Right => right_onto(alloc, stack),
-        SharedNode::Exists(line) => exists_onto(alloc, line, stack),
-        SharedNode::New(name) => new_onto(alloc, name, stack),
+        SharedNode::Atom(used) => atom_over(alloc, used, stack),
+        SharedNode::Eq => Ok(Some(SharedDerivation::Eq)),
+        SharedNode::Fresh => Ok(Some(SharedDerivation::Fresh)),
+        SharedNode::True => Ok(Some(SharedDerivation::True)),
+        SharedNode::And => both_over(alloc, stack),
+        SharedNode::Left => left_over(alloc, stack),
+        SharedNode::Right => right_over(alloc, stack),
+        SharedNode::Exists(line) => exists_over(alloc, line, stack),
+        SharedNode::New(name) => new_over(alloc, name, stack),
     }
 }
 
@@ -193,8 +175,8 @@ pub fn derivation_from(
     let mut nodes = nodes;
     let mut stack = Vec::new(alloc);
     while let Some(node) = nodes.pop() {
-        match node_onto(alloc, node, stack)? {
-            Some(more) => stack = more,
+        match node_over(alloc, node, &mut stack)? {
+            Some(whole) => stack.push(whole)?,
             None => return Ok(None),
         }
     }

@@ -1,2 +1,1 @@
-pub mod Predicates
 pub mod Reports

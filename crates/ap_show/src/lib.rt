@@ -4,7 +4,6 @@
 //! derivation is shown, as plain text, as LaTeX or as HTML.
 #![tactic(auto)]
 
-mod predicates;
 mod show;
 
 pub use show::show_bytes;

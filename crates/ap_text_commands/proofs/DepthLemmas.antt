@@ -7,7 +7,9 @@ use Rattle.ap_defs.specs.Types.{NominalLocal}
 use Rattle.ap_derive.specs.Uses.{ClauseUse, uses_in_each}
 use Rattle.ap_search.specs.Depths.{HasNoCut, HasNoCutOut}
 use Rattle.ap_search.proofs.DepthLemmas.{solve_deeper}
-use Rattle.ap_text_commands.specs.Counts.{clause_counts, counts_of_predicates, derivations_among, in_order_of_items, uses_of_queries}
+use Rattle.ap_query_proofs.specs.QueryUses.{derivations_among}
+use Rattle.ap_program_proofs.specs.ProgramUses.{uses_of_queries}
+use Rattle.ap_text_commands.specs.Counts.{clause_counts, counts_of_predicates, in_order_of_items}
 use Rattle.ap_text_commands.specs.Laws.{HaveNoCuts}
 
 uncut : (locals : List NominalLocal) (os : List Output) → HasNoCutOut (map (out_in locals) os) → HasNoCut os

@@ -2,7 +2,8 @@
 use Rattle.std.proofs.Common.{◌≡◌, ℕ, suc, List, [], ◌∷◌, ◌++◌, refl, ap, ap₂, ◌∙◌}
 use Rattle.ap_defs.specs.Goals.{Clauses, NominalClause, NominalProgram}
 use Rattle.ap_derive.specs.Uses.{ClauseUse, saturated, times_used, use_row, use_rows, use_table}
-use Rattle.ap_text_commands.specs.Counts.{clause_counts, counts_of_clauses, counts_of_predicates, in_order_of_items, uses_of_queries}
+use Rattle.ap_program_proofs.specs.ProgramUses.{uses_of_queries}
+use Rattle.ap_text_commands.specs.Counts.{clause_counts, counts_of_clauses, counts_of_predicates, in_order_of_items}
 use Rattle.ap_text_commands.specs.Rows.{counts_in_row, counts_in_rows}
 use Rattle.ap_text_commands.specs.declared.counting.counts.ClauseCount.{ClauseCount}
 

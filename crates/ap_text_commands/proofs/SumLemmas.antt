@@ -8,10 +8,10 @@ use Rattle.ap_defs.specs.Goals.{NominalProgram, NominalQuery}
 use Rattle.ap_defs.specs.Lines.{count_of, is_cut, is_found, is_stuck, query_lines, report_from}
 use Rattle.ap_defs.specs.Types.{NominalLocal}
 use Rattle.ap_answers.specs.Queries.{locals_at, query_locals}
-use Rattle.ap_text_commands.specs.declared.working.totals.Totals.{Totals}
-use Rattle.ap_text_commands.specs.Sums.{IsSumAtMost, HaveRoom, output_totals, sum_of_both, totals_at}
+use Rattle.ap_totals.specs.declared.totals.Totals.{Totals}
+use Rattle.ap_totals.specs.Sums.{IsSumAtMost, HaveRoom, output_totals, sum_of_both, totals_at}
 use Rattle.ap_text_commands.specs.WorkReports.{total_of, totals_of}
-use Rattle.ap_text_commands.proofs.WorkOutLemmas.{nothing_after, nothing_before, same_sums, same_totals}
+use Rattle.ap_totals.proofs.OutLemmas.{nothing_after, nothing_before, same_sums, same_totals}
 
 -- the identifiers of the query at a place
 locals_if : Option NominalQuery → List NominalLocal

@@ -1,10 +1,7 @@
-pub mod ProvedPaths
 pub mod ProveReports
 pub mod Counts
 pub mod CountReports
-pub mod CountedPaths
 pub mod Rows
 pub mod Laws
-pub mod Sums
 pub mod WorkReports
 pub mod Generated

@@ -8,7 +8,7 @@ use Rattle.ap_text_commands.specs.Generated.{generated}
 use Rattle.ap_report.specs.declared.report.Report.{Report}
 use Rattle.ap_report.specs.declared.status.Status.TheVariants as status
 use Rattle.ap_report.specs.TextReport.{IsTextReport}
-use Rattle.ap_text_commands.specs.declared.working.totals.Totals.{Totals}
+use Rattle.ap_totals.specs.declared.totals.Totals.{Totals}
 
 -- how many outputs of queries to a depth pass a test
 abbrev pub total_of : (NominalOut → Bool) → NominalProgram → ℕ → List NominalQuery → ℕ

@@ -4,13 +4,10 @@
 //! authors of rules look for. Many workers find the answers and count the uses; what is written does not
 //! depend on how many there are.
 
-mod answers;
 mod counts;
 pub mod laws;
 mod lines;
 mod order;
-mod program;
-mod query;
 mod text;
 
 pub use text::count_text;

@@ -10,6 +10,6 @@ mod texts;
 mod working;
 
 pub use counting::count_text;
-pub use proving::{prove_program, prove_text};
+pub use proving::prove_text;
 pub use texts::program_of;
-pub use working::{Totals, report_work};
+pub use working::report_work;

@@ -4,9 +4,6 @@
 //! from the path at which it was found; [`prove_text`] is the report of the command on a text. What is
 //! written does not depend on how many workers there are.
 
-mod program;
-mod query;
 mod text;
 
-pub use program::prove_program;
 pub use text::prove_text;

@@ -6,8 +6,6 @@
 
 mod program;
 mod query;
-mod totals;
 mod work;
 
-pub use totals::Totals;
 pub use work::report_work;

@@ -8,12 +8,12 @@ use Rattle.ap_bundle.specs.Reading.{cited_reading, reading}
 use Rattle.ap_bundle.specs.declared.faults.BundleFault.{BundleFault}
 use Rattle.ap_verdicts.specs.Verdicts.{RefusedProof, first_refused}
 use Rattle.ap_text_commands.specs.ProveReports.{prove_report}
-use Rattle.ap_bundle_commands.specs.CheckReports.{IsReadReport, check_report, verdicts_report}
+use Rattle.ap_bundle_reports.specs.BundleReports.{check_report, cover_report, covers_report, proofs_report, verdicts_report}
+use Rattle.ap_bundle_commands.specs.CheckReports.{IsReadReport}
 use Rattle.ap_bundle.specs.declared.version.Version.{Version}
 use Rattle.ap_bundle_commands.specs.ConvertReports.{convert_report}
 use Rattle.ap_bundle_commands.specs.CoverReports as cover
-use Rattle.ap_bundle_commands.specs.CoverReports.{cover_report, covers_report, proofs_report}
-use Rattle.ap_bundle_commands.specs.Uncovered.{first_uncovered}
+use Rattle.ap_covering.specs.Uncovered.{first_uncovered}
 use Rattle.ap_text_commands.specs.Generated.{generated}
 use Rattle.ap_examine.specs.Reports.{exam_report, exams_from, first_other, other_or}
 use Rattle.ap_text_commands.specs.CountReports.{count_report}

@@ -1,77 +1,23 @@
 //! The report on a bundle.
 
-ghost use Rattle.std.specs.Prelude.{◌≡◌, ◌≤◌, IfOk, Ok, length, map};
-ghost use Rattle.ap_bundle.specs.Bundles.{bundle_of, proved_of};
-ghost use Rattle.ap_defs.specs.Goals.{program_of};
+ghost use Rattle.std.specs.Prelude.{◌≡◌, ◌≤◌, IfOk, Ok, length};
+ghost use Rattle.ap_bundle.specs.Bundles.{bundle_of};
 ghost use Rattle.ap_defs.specs.Limits.{size_limit};
 ghost use Rattle.ap_report.specs.declared.report.Report.{Report};
-ghost use Rattle.ap_bundle_commands.specs.CoverReports as spec;
 ghost use Rattle.ap_bundle_commands.specs.CoverReports.{HasCoveredProofs, IsCoverReport, IsReadCoverReport};
-ghost use Rattle.ap_bundle_commands.specs.Uncovered.{first_uncovered as first_of};
 
-use crate::covering::lines::uncovered_line;
-use crate::covering::proofs::lines_of_proofs;
-use crate::covering::uncovered::first_uncovered;
-use crate::{bundle_fault_report, report_of_refused};
 use ap_bundle_read::{BundleError, read_bundle};
+use ap_bundle_reports::covers::report_proofs;
+use ap_bundle_reports::lines::bundle_fault_report;
 use ap_defs::limits::{Depth, Workers};
-use ap_defs::lists::List;
 use ap_defs::memory::Memory;
-use ap_defs::outcomes::{Bundle, Proved};
-use ap_index::index::Index;
+use ap_defs::outcomes::Bundle;
 use ap_io::Gate;
-use ap_program::restricted::Restricted;
-use ap_report::{Report, Status, fault_report};
+use ap_report::{Report, fault_report};
 use ap_text::{TextError, program_of_text};
 use std::alloc::Global;
 use std::sync::Wait;
 use std::thread::Threads;
-
-/// The report on proofs that check: the first that is not to be covered, or what covers each.
-fn report_covers<R: Threads + Wait + Sync, G: Gate>(
-    rt: &R,
-    alloc: Global,
-    gate: &G,
-    depth: Depth,
-    workers: Workers,
-    program: &Restricted,
-    proved: &[Proved],
-) -> Result<Report, Memory>
-    ensures { IfOk result (λ r. r ≡ spec.covers_report depth (map proved_of proved.now)
-        (program_of program.now) (first_of depth 1 (map proved_of proved.now))) }
-{
-    if let Some(uncovered) = first_uncovered(depth, proved) {
-        return Ok(Report {
-            bytes: uncovered_line(alloc, uncovered)?,
-            status: Status::NotCovered,
-        });
-    }
-    let index = Index::of(alloc, program)?;
-    let bytes = lines_of_proofs(rt, alloc, gate, depth, workers, &index, proved)?;
-    Ok(Report {
-        bytes: List::of(bytes),
-        status: Status::Ok,
-    })
-}
-
-/// The report on derivations for a program: the first that is refused, or what comes of them all.
-fn report_proofs<R: Threads + Wait + Sync, G: Gate>(
-    rt: &R,
-    alloc: Global,
-    gate: &G,
-    depth: Depth,
-    workers: Workers,
-    program: &Restricted,
-    proved: &[Proved],
-) -> Result<Report, Memory>
-    ensures { IfOk result (λ r. r ≡ spec.cover_report depth (map proved_of proved.now)
-        (program_of program.now)) }
-{
-    match report_of_refused(alloc, program, proved)? {
-        Some(report) => Ok(report),
-        None => report_covers(rt, alloc, gate, depth, workers, program, proved),
-    }
-}
 
 /// The report on a bundle that was read.
 #[tactic(auto, using(ap_report::proofs::Texts::refused_report, ap_report::proofs::Texts::answered_report))]

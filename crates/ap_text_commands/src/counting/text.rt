@@ -10,13 +10,13 @@ ghost use Rattle.ap_text_commands.specs.CountReports.{IsCountReport, count_repor
 use crate::counting::counts::{ClauseCount, counts_of};
 use crate::counting::lines::lines_of;
 use crate::counting::order::in_order_of_items;
-use crate::counting::program::uses_of_program;
 use ap_defs::limits::{Depth, Workers};
 use ap_defs::lists::List;
 use ap_defs::memory::Memory;
 use ap_index::index::Index;
 use ap_io::Gate;
 use ap_program::restricted::Restricted;
+use ap_program_proofs::counting::uses_of_program;
 use ap_report::{Report, Status, fault_report};
 use ap_text::{TextError, program_of_text};
 use std::alloc::Global;

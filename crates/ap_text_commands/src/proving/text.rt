@@ -8,7 +8,6 @@ ghost use Rattle.ap_bundle.specs.Written.{written_as};
 ghost use Rattle.ap_report.specs.declared.report.Report.{Report};
 ghost use Rattle.ap_text_commands.specs.ProveReports.{HasSoundProofs, IsProveReport, prove_report};
 
-use crate::proving::program::prove_program;
 use ap_bundle::version::Version;
 use ap_bundle_write::write_version;
 use ap_defs::limits::{Depth, Workers};
@@ -18,6 +17,7 @@ use ap_index::index::Index;
 use ap_io::Gate;
 use ap_paths::Limit;
 use ap_program::restricted::Restricted;
+use ap_program_proofs::proving::prove_program;
 use ap_report::{Report, Status, fault_report};
 use ap_shared::derivations::{SharedBundle, SharedProved};
 use ap_text::{TextError, program_of_text};

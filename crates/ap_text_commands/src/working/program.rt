@@ -5,13 +5,13 @@ ghost use Rattle.ap_defs.specs.Goals.{program_of};
 ghost use Rattle.ap_text_commands.specs.WorkReports.{totals_of, work_depth};
 
 use crate::working::query::query_totals;
-use crate::working::totals::Totals;
 use ap_answers::printing::taken_in;
 use ap_backchain::problem::Problem;
 use ap_defs::limits::Workers;
 use ap_defs::memory::Memory;
 use ap_index::index::Index;
 use ap_io::Gate;
+use ap_totals::totals::Totals;
 use std::alloc::Global;
 use std::sync::Wait;
 use std::thread::Threads;

@@ -4,9 +4,8 @@ ghost use Rattle.std.specs.Prelude.{◌≡◌, ◌-◌, ◌^◌, Some, IfOk, sli
 ghost use Rattle.ap_defs.specs.Goals.{NominalQuery};
 ghost use Rattle.ap_answers.specs.Words.{IsTaken};
 ghost use Rattle.ap_backchain.specs.Problems.{HasQuery, program_of_problem, queries_in};
-ghost use Rattle.ap_text_commands.specs.Sums.{IsSumAtMost, totals_at};
+ghost use Rattle.ap_totals.specs.Sums.{IsSumAtMost, totals_at};
 
-use crate::working::totals::Totals;
 use ap_answers::printing::lines_among;
 use ap_answers::words::Taken;
 use ap_backchain::problem::Problem;
@@ -15,6 +14,7 @@ use ap_defs::memory::Memory;
 use ap_io::Gate;
 use ap_paths::Limit;
 use ap_replay::solver::solve;
+use ap_totals::totals::Totals;
 use std::alloc::Global;
 use std::sync::Wait;
 use std::thread::Threads;

@@ -9,7 +9,6 @@ ghost use Rattle.ap_text_commands.specs.WorkReports.{IsWorkReport, summary, summ
 
 use crate::texts::program_of;
 use crate::working::program::{program_totals, query_count};
-use crate::working::totals::Totals;
 use ap_defs::limits::Workers;
 use ap_defs::lists::List;
 use ap_defs::memory::Memory;
@@ -18,6 +17,7 @@ use ap_io::Gate;
 use ap_program::restricted::Restricted;
 use ap_report::{Report, Status, fault_report};
 use ap_text::{TextError, program_of_text};
+use ap_totals::totals::Totals;
 use ap_words::Size;
 use std::alloc::Global;
 use std::sync::Wait;

@@ -3,7 +3,8 @@ use Rattle.ap_defs.specs.declared.terms.Id.TheVariants as ids
 use Rattle.ap_defs.specs.Goals.{goal_of}
 use Rattle.ap_defs.specs.Occurrences.{free_names, free_vars}
 use Rattle.ap_checker.specs.declared.new_names.Part.{Part}
-use Rattle.ap_checker.specs.NewNames.{are_apart, are_fresh, goal_size, is_new_inside, mark_of_part, size_of_part}
+use Rattle.ap_checker.specs.NewNames.{goal_size, is_new_inside, mark_of_part, size_of_part}
+use Rattle.ap_sides.specs.Brought.{are_apart, are_fresh}
 use Rattle.ap_judge.specs.Scopes.{environment_of}
 use Rattle.ap_checker.proofs.NewNameLemmas.{inside_exists, inside_new}
 use Rattle.ap_judge.proofs.StackLemmas.{left_brought}

@@ -5,7 +5,7 @@ use Rattle.ap_shared.specs.declared.derivations.SharedProved.{SharedProved}
 use Rattle.ap_shared.specs.SharedViews.{shared_proved}
 use Rattle.ap_text.specs.Texts.{IsProgramOfText, IsRefusedText}
 use Rattle.ap_report.proofs.Texts.{answered_report, refused_report, report_one}
-use Rattle.ap_bundle_commands.specs.CheckReports.{check_report}
+use Rattle.ap_bundle_reports.specs.BundleReports.{check_report}
 use Rattle.ap_bundle_commands.proofs.checking.check.report_bundle.Goals as goal
 
 pub returns-in-Ok-clause-only : goal.returns-in-Ok-clause-only

@@ -5,7 +5,7 @@ use Rattle.ap_defs.specs.declared.outcomes.Proved.{Proved}
 use Rattle.ap_bundle.specs.Bundles.{proved_of}
 use Rattle.ap_text.specs.Texts.{IsProgramOfText, IsRefusedText}
 use Rattle.ap_report.proofs.Texts.{answered_report, refused_report, report_one}
-use Rattle.ap_bundle_commands.specs.CoverReports.{cover_report}
+use Rattle.ap_bundle_reports.specs.BundleReports.{cover_report}
 use Rattle.ap_bundle_commands.proofs.covering.cover.report_bundle.Goals as goal
 
 pub returns-in-Ok-clause-only : goal.returns-in-Ok-clause-only

@@ -7,7 +7,7 @@ use Rattle.ap_defs.specs.declared.goals.Program.{Program}
 use Rattle.ap_defs.specs.declared.terms.Term.{Term}
 use Rattle.ap_derive.specs.Tables.{counts_of}
 use Rattle.ap_derive.specs.Uses.{use_table}
-use Rattle.ap_text_commands.specs.Counts.{uses_of_queries}
+use Rattle.ap_program_proofs.specs.ProgramUses.{uses_of_queries}
 use Rattle.ap_text_commands.proofs.RowLemmas.{all_counted}
 use Rattle.ap_text_commands.proofs.counting.text.clause_counts.Goals as goal
 

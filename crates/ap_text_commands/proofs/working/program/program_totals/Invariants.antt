@@ -1,7 +1,7 @@
 -- The totals so far, with those of the queries that are left, are all; and no query has more than 2 ^ 64 of any.
 use Rattle.std.proofs.Common.{◌≡◌, ◌+◌, ◌*◌, ◌^◌, drop}
 use Rattle.ap_defs.specs.Goals.{program_of}
-use Rattle.ap_text_commands.specs.Sums.{IsSumAtMost, sum_of_both}
+use Rattle.ap_totals.specs.Sums.{IsSumAtMost, sum_of_both}
 use Rattle.ap_text_commands.specs.WorkReports.{totals_of, work_depth}
 use Rattle.ap_text_commands.proofs.SumLemmas.{totals_from}
 use Rattle.ap_text_commands.proofs.working.program.program_totals.Given as goal

@@ -6,7 +6,7 @@ use Rattle.ap_defs.specs.declared.goals.Program.{Program}
 use Rattle.ap_defs.specs.declared.terms.Term.{Term}
 use Rattle.ap_answers.specs.Queries.{query_locals}
 use Rattle.ap_backchain.specs.Problems.{program_of_problem}
-use Rattle.ap_text_commands.specs.Sums.{output_totals}
+use Rattle.ap_totals.specs.Sums.{output_totals}
 use Rattle.ap_text_commands.proofs.SumLemmas.{of_one_query}
 use Rattle.ap_text_commands.proofs.working.query.query_totals.Goals as goal
 

@@ -1,0 +1,2 @@
+pub mod CheckLines
+pub mod BundleReports

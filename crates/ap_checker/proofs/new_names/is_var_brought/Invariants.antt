@@ -1,7 +1,0 @@
-use Rattle.std.proofs.Common.{◌≡◌, drop}
-use Rattle.std.specs.List.{list_any}
-use Rattle.ap_checker.specs.NewNames.{is_id_of_var}
-use Rattle.ap_checker.proofs.new_names.is_var_brought.Given as goal
-
-abbrev pub invariant-loop-what : goal.invariant-loop-what
-invariant-loop-what l = list_any (is_id_of_var l.y) (drop l.what-index l.brought) ≡ list_any (is_id_of_var l.y) l.brought

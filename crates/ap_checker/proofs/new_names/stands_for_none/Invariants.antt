@@ -1,7 +1,0 @@
-use Rattle.std.proofs.Common.{◌≡◌, drop}
-use Rattle.ap_checker.specs.NewNames.{are_apart}
-use Rattle.ap_judge.specs.Scopes.{environment_of}
-use Rattle.ap_checker.proofs.new_names.stands_for_none.Given as goal
-
-abbrev pub invariant-loop-b : goal.invariant-loop-b
-invariant-loop-b l = are_apart l.c (environment_of l.scope) l.brought (drop l.b-index l.names) ≡ are_apart l.c (environment_of l.scope) l.brought l.names

@@ -1,0 +1,3 @@
+mod UncoveredLemmas
+mod SearchedLemmas
+mod LineLemmas

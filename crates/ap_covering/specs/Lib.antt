@@ -1,0 +1,4 @@
+pub mod Uncovered
+pub mod CoverLines
+pub mod ProofLines
+pub mod Searched

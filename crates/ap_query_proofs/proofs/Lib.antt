@@ -1,0 +1,3 @@
+mod ProvedOutLemmas
+mod Shared
+pub mod PathLemmas

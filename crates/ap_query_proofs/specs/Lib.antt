@@ -1,0 +1,3 @@
+pub mod ProvedPaths
+pub mod CountedPaths
+pub mod QueryUses

@@ -1,2 +1,0 @@
-pub mod ShowLemmas
-pub mod TokenCounts

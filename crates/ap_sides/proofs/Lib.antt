@@ -1,0 +1,2 @@
+mod HeadLemmas
+pub mod BroughtLemmas
