@@ -38,9 +38,11 @@ fn names(word: &str) -> bool {
 /// Adds a line of a derivation in full, with its names exchanged.
 fn put_renamed(made: &mut Spelling, line: &str, exchange: Exchange) {
     let mut left: u32 = 0;
-    let mut space = "";
+    let mut is_first = true;
     for word in line.split(' ') {
-        made.put(space);
+        if !is_first {
+            made.put(" ");
+        }
         if left == 1 {
             made.put_number(exchange.of(word.parse::<u64>().unwrap_or(0)), "");
         } else {
@@ -51,7 +53,7 @@ fn put_renamed(made: &mut Spelling, line: &str, exchange: Exchange) {
         } else {
             left.saturating_sub(1)
         };
-        space = " ";
+        is_first = false;
     }
     made.put("\n");
 }
