@@ -174,23 +174,36 @@ pub fn answer_line<R: Threads + Wait + Sync>(
     }
 }
 
+/// What a call by a command and to a depth answers, by so many workers.
+fn answer_with<R: Threads + Wait + Sync>(
+    rt: &R,
+    out: &mut Spelling,
+    command: &str,
+    depth: &str,
+    workers: &str,
+    text: &[u8],
+) -> Answer {
+    let words = [command, "--depth", depth, "--workers", workers];
+    answer_by(rt, out, &words, text)
+}
+
 /// Tells what one worker writes for a text by a command and to a depth, a line for each number of workers that answer
 /// otherwise, and the status.
 pub fn tell_by<R: Threads + Wait + Sync>(
     rt: &R,
     out: &mut Spelling,
-    asked: (&str, &str),
+    command: &str,
+    depth: &str,
     text: &[u8],
     several: &[&str],
 ) {
-    let (command, depth) = asked;
-    let words = [command, "--depth", depth, "--workers", "1"];
-    let first = answer_by(rt, out, &words, text);
+    let first = answer_with(rt, out, command, depth, "1", text);
     out.put_bytes(&first.bytes);
     for workers in several {
-        let words = [command, "--depth", depth, "--workers", *workers];
-        if !answer_by(rt, out, &words, text).is_same(&first) {
-            out.put_all(&["% ", *workers, " workers write otherwise\n"]);
+        if !answer_with(rt, out, command, depth, workers, text).is_same(&first) {
+            out.put("% ");
+            out.put(workers);
+            out.put(" workers write otherwise\n");
         }
     }
     put_status(out, first.status);

@@ -22,7 +22,7 @@ fn run<R: Threads + Wait + Sync>(
     let mut text = Spelling::new(out.alloc());
     text.put_all(&[begin, end]);
     out.put_all(&[end, "\n"]);
-    tell_by(rt, out, ("run", depth), text.text().as_bytes(), &SEVERAL);
+    tell_by(rt, out, "run", depth, text.text().as_bytes(), &SEVERAL);
     tally_of(rt, out, depth, text.text())
 }
 
@@ -31,7 +31,11 @@ pub fn run_texts<R: Threads + Wait + Sync>(rt: &R, out: &mut Spelling, name: &st
     let mut parts = all.trim_end().split(DIVIDER);
     let depth = parts.next().unwrap_or("");
     let begin = parts.next().unwrap_or("");
-    out.put_all(&["% ", name, ", depth ", depth, "\n"]);
+    out.put("% ");
+    out.put(name);
+    out.put(", depth ");
+    out.put(depth);
+    out.put("\n");
     let mut tally = NONE;
     for end in parts {
         tally = tally.plus(run(rt, out, depth, begin, end));

@@ -50,7 +50,7 @@ fn work_on<R: Threads + Wait + Sync>(rt: &R, out: &mut Spelling, task: Task, one
         Task::Run => {}
         Task::Examine => {
             out.put_all(&["% ", one.folder, "/", one.name, ", depth ", one.depth, "\n"]);
-            tell_by(rt, out, ("examine", one.depth), bytes, &["4"]);
+            tell_by(rt, out, "examine", one.depth, bytes, &["4"]);
         }
         Task::Prove => {
             let tally = tally_of(rt, out, one.depth, one.text);

@@ -29,13 +29,24 @@ pub fn are_written<R: Threads + Wait + Sync>(
     true
 }
 
-/// Whether `prove` writes the second version for a text, by one worker and by several, `check` for both versions that so
-/// many derivations check, and `convert` each version for each.
-pub fn are_proved<R: Threads + Wait + Sync>(
+/// Whether `prove` writes these bytes for a text, by one worker and by several.
+fn is_bundle_of<R: Threads + Wait + Sync>(
     rt: &R,
     out: &mut Spelling,
     text: &[u8],
     depth: &str,
+    bytes: &[u8],
+) -> bool {
+    let alone = ["prove", "--depth", depth, "--workers", "1"];
+    let many = ["prove", "--depth", depth, "--workers", "8"];
+    let first = answer_by(rt, out, &alone, text);
+    first.bytes.as_slice() == bytes && answer_by(rt, out, &many, text).is_same(&first)
+}
+
+/// Whether `check` writes for both versions that so many derivations check, and `convert` each version for each.
+fn are_checked<R: Threads + Wait + Sync>(
+    rt: &R,
+    out: &mut Spelling,
     written: &Written,
     count: usize,
 ) -> bool {
@@ -44,14 +55,10 @@ pub fn are_proved<R: Threads + Wait + Sync>(
     line.put_number(count as u64, " derivations checked\n");
     let checked = line.text().as_bytes();
     let (full, shared) = (written.full.as_slice(), written.shared.as_slice());
-    let alone: &[&str] = &["prove", "--depth", depth, "--workers", "1"];
-    let many: &[&str] = &["prove", "--depth", depth, "--workers", "8"];
     let check: &[&str] = &["check"];
     let first: &[&str] = &["convert", "--to", "1"];
     let second: &[&str] = &["convert", "--to", "2"];
     let calls = [
-        (alone, text, shared),
-        (many, text, shared),
         (check, full, checked),
         (check, shared, checked),
         (first, full, full),
@@ -60,6 +67,18 @@ pub fn are_proved<R: Threads + Wait + Sync>(
         (second, shared, shared),
     ];
     are_written(rt, out, &calls)
+}
+
+/// Whether `prove` writes the second version for a text, and `check` and `convert` what they are to for both versions.
+pub fn are_proved<R: Threads + Wait + Sync>(
+    rt: &R,
+    out: &mut Spelling,
+    text: &[u8],
+    depth: &str,
+    written: &Written,
+    count: usize,
+) -> bool {
+    is_bundle_of(rt, out, text, depth, &written.shared) && are_checked(rt, out, written, count)
 }
 
 /// Whether `check` writes the same for both versions of a bundle, with the same status.
