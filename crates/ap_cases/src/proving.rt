@@ -29,6 +29,17 @@ pub fn are_written<R: Threads + Wait + Sync>(
     true
 }
 
+/// Whether a call writes these bytes for an input.
+fn is_written<R: Threads + Wait + Sync>(
+    rt: &R,
+    out: &mut Spelling,
+    words: &[&str],
+    input: &[u8],
+    bytes: &[u8],
+) -> bool {
+    answer_by(rt, out, words, input).bytes.as_slice() == bytes
+}
+
 /// Whether `prove` writes these bytes for a text, by one worker and by several.
 fn is_bundle_of<R: Threads + Wait + Sync>(
     rt: &R,
@@ -39,11 +50,10 @@ fn is_bundle_of<R: Threads + Wait + Sync>(
 ) -> bool {
     let alone = ["prove", "--depth", depth, "--workers", "1"];
     let many = ["prove", "--depth", depth, "--workers", "8"];
-    let first = answer_by(rt, out, &alone, text);
-    first.bytes.as_slice() == bytes && answer_by(rt, out, &many, text).is_same(&first)
+    is_written(rt, out, &alone, text, bytes) && is_written(rt, out, &many, text, bytes)
 }
 
-/// Whether `check` writes for both versions that so many derivations check, and `convert` each version for each.
+/// Whether `check` writes for both versions of a bundle that so many derivations check.
 fn are_checked<R: Threads + Wait + Sync>(
     rt: &R,
     out: &mut Spelling,
@@ -53,23 +63,24 @@ fn are_checked<R: Threads + Wait + Sync>(
     let mut line = Spelling::new(out.alloc());
     line.put("% ");
     line.put_number(count as u64, " derivations checked\n");
-    let checked = line.text().as_bytes();
-    let (full, shared) = (written.full.as_slice(), written.shared.as_slice());
-    let check: &[&str] = &["check"];
-    let first: &[&str] = &["convert", "--to", "1"];
-    let second: &[&str] = &["convert", "--to", "2"];
-    let calls = [
-        (check, full, checked),
-        (check, shared, checked),
-        (first, full, full),
-        (second, full, shared),
-        (first, shared, full),
-        (second, shared, shared),
-    ];
-    are_written(rt, out, &calls)
+    let wanted = line.text().as_bytes();
+    is_written(rt, out, &["check"], &written.full, wanted)
+        && is_written(rt, out, &["check"], &written.shared, wanted)
 }
 
-/// Whether `prove` writes the second version for a text, and `check` and `convert` what they are to for both versions.
+/// Whether `convert` makes each of two versions of a bundle of these bytes.
+fn is_converted<R: Threads + Wait + Sync>(
+    rt: &R,
+    out: &mut Spelling,
+    input: &[u8],
+    written: &Written,
+) -> bool {
+    is_written(rt, out, &["convert", "--to", "1"], input, &written.full)
+        && is_written(rt, out, &["convert", "--to", "2"], input, &written.shared)
+}
+
+/// Whether `prove` writes the second version for a text, `check` for both versions that so many derivations check,
+/// and `convert` each version for each.
 pub fn are_proved<R: Threads + Wait + Sync>(
     rt: &R,
     out: &mut Spelling,
@@ -78,7 +89,10 @@ pub fn are_proved<R: Threads + Wait + Sync>(
     written: &Written,
     count: usize,
 ) -> bool {
-    is_bundle_of(rt, out, text, depth, &written.shared) && are_checked(rt, out, written, count)
+    is_bundle_of(rt, out, text, depth, &written.shared)
+        && are_checked(rt, out, written, count)
+        && is_converted(rt, out, &written.full, written)
+        && is_converted(rt, out, &written.shared, written)
 }
 
 /// Whether `check` writes the same for both versions of a bundle, with the same status.
