@@ -3,12 +3,12 @@
 //! The files `.cases` of the folder that this program is run in have texts, which are run by one worker and by
 //! several; those of `sampled_to_0.cases` and so on were made at random, and what is wanted of them is from an
 //! implementation that was written apart. The answers of each text are counted, with what their derivations come to. The
-//! file `words` has command lines, and those of `COMMANDS` some with an input each. The texts of the folders `examples` and
-//! `bytes` are told in `folders.rt` and `streams.rt`, the files of `searched` in `searched.rt`, those of `bundles` in
-//! `bundles.rt` and `prefixes.rt`, visits of paths in `visits.rt`, keys of clauses in `keys.rt`, calls whose reads and
-//! writes fail in `failing.rt`, and the large texts in `large.rt`. The library's call `cover` is made on the ground
-//! proofs among all these derivations, and on the proofs of `CALLS`, and it is looked at term by term whether what it gives
-//! covers the proof.
+//! file `words` has command lines; what is done with each other file stands in the table of `parts.rt`. The texts of the
+//! folders `examples` and `bytes` are told in `folders.rt` and `streams.rt`, what is asked of a search in `questions.rt`
+//! and `searched.rt`, bundles in `bundles.rt` and `prefixes.rt`, visits of paths in `visits.rt`, keys of clauses in
+//! `keys.rt`, calls whose reads and writes fail in `failing.rt`, and the large texts in `large.rt`. The library's call
+//! `cover` is made on the ground proofs among all these derivations, and on the proofs of the file `calls.cases`, and it
+//! is looked at term by term whether what it gives covers the proof.
 //!
 //! Parts that the top call doesn't reach, or that show more by themselves: what texts are read as (`texts.rt`), what is
 //! said beside their reports (`explained.rt`), and what is shown of bundles (`pages.rt`). With a word this program makes a
