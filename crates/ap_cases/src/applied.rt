@@ -9,27 +9,55 @@ use ap_perm::swappings::image;
 use ap_values::ground::{alpha_eq, fresh_ground};
 use std::alloc::Global;
 
+/// An abstraction of a name.
+fn abstracted(alloc: Global, a: Name, body: Result<Ground, Memory>) -> Result<Ground, Memory> {
+    match body {
+        Ok(body) => Ok(Ground::Abs(a, Box::new(alloc, body)?)),
+        Err(Memory) => Err(Memory),
+    }
+}
+
+/// A constructor with its argument.
+fn constructed(
+    alloc: Global,
+    constructor: u32,
+    argument: Result<Ground, Memory>,
+) -> Result<Ground, Memory> {
+    match argument {
+        Ok(argument) => Ok(Ground::App(constructor, Box::new(alloc, argument)?)),
+        Err(Memory) => Err(Memory),
+    }
+}
+
+/// A pair of terms.
+fn paired(
+    alloc: Global,
+    left: Result<Ground, Memory>,
+    right: Result<Ground, Memory>,
+) -> Result<Ground, Memory> {
+    match (left, right) {
+        (Ok(left), Ok(right)) => {
+            let left = Box::new(alloc, left)?;
+            Ok(Ground::Pair(left, Box::new(alloc, right)?))
+        }
+        _ => Err(Memory),
+    }
+}
+
 /// A term without variables on which swappings act. A variable would be unit.
 fn moved(alloc: Global, swaps: &[Swap], term: &Term) -> Result<Ground, Memory> {
     match term {
         Term::Unit | Term::Susp(_, _) => Ok(Ground::Unit),
         Term::Name(a) => Ok(Ground::Name(image(swaps, *a))),
         Term::Pair(left, right) => {
-            let left = Box::new(alloc, moved(alloc, swaps, left)?)?;
-            let right = moved(alloc, swaps, right)?;
-            Ok(Ground::Pair(left, Box::new(alloc, right)?))
+            let left = moved(alloc, swaps, left);
+            paired(alloc, left, moved(alloc, swaps, right))
         }
-        Term::App(f, argument) => {
-            let argument = moved(alloc, swaps, argument)?;
-            Ok(Ground::App(*f, Box::new(alloc, argument)?))
-        }
+        Term::App(f, argument) => constructed(alloc, *f, moved(alloc, swaps, argument)),
         Term::Abs(sort, num, body) => {
-            let a = Name {
-                sort: *sort,
-                num: *num,
-            };
-            let body = moved(alloc, swaps, body)?;
-            Ok(Ground::Abs(image(swaps, a), Box::new(alloc, body)?))
+            let (sort, num) = (*sort, *num);
+            let a = image(swaps, Name { sort, num });
+            abstracted(alloc, a, moved(alloc, swaps, body))
         }
     }
 }
@@ -76,21 +104,16 @@ fn applied(
             given_to(alloc, grounding, under.as_slice(), *x)
         }
         Term::Pair(left, right) => {
-            let left = Box::new(alloc, applied(alloc, swaps, grounding, left)?)?;
-            let right = applied(alloc, swaps, grounding, right)?;
-            Ok(Ground::Pair(left, Box::new(alloc, right)?))
+            let left = applied(alloc, swaps, grounding, left);
+            paired(alloc, left, applied(alloc, swaps, grounding, right))
         }
         Term::App(f, argument) => {
-            let argument = applied(alloc, swaps, grounding, argument)?;
-            Ok(Ground::App(*f, Box::new(alloc, argument)?))
+            constructed(alloc, *f, applied(alloc, swaps, grounding, argument))
         }
         Term::Abs(sort, num, body) => {
-            let a = Name {
-                sort: *sort,
-                num: *num,
-            };
-            let body = applied(alloc, swaps, grounding, body)?;
-            Ok(Ground::Abs(image(swaps, a), Box::new(alloc, body)?))
+            let (sort, num) = (*sort, *num);
+            let a = image(swaps, Name { sort, num });
+            abstracted(alloc, a, applied(alloc, swaps, grounding, body))
         }
     }
 }

@@ -4,8 +4,10 @@
 //! are written of it are those that were read, and whether `check` writes the same for both of its versions. Then comes
 //! what `check` writes.
 
+use crate::files::text_of;
 use crate::problems::program_of;
 use crate::proving::{Written, are_checked_alike, tell_check};
+use crate::spelling::Spelling;
 use ap_bundle::version::Version;
 use ap_bundle_read::{BundleError, read_bundle};
 use ap_bundle_write::write_version;
@@ -15,11 +17,10 @@ use ap_defs::outcomes::{Bundle, Proved, Verdict};
 use ap_program::restricted::Restricted;
 use ap_shared::derivations::SharedBundle;
 use ap_shared::sharing::{share_bundle, shared};
-use std::alloc::{AllocError, Global};
+use std::alloc::Global;
 use std::fs::Files;
 use std::sync::Wait;
 use std::thread::Threads;
-use std::{fs, io};
 
 /// The verdict on a derivation that a bundle has.
 pub fn verdict_on(alloc: Global, program: &Restricted, proved: &Proved) -> Result<Verdict, Memory> {
@@ -34,32 +35,34 @@ pub fn verdict_on(alloc: Global, program: &Restricted, proved: &Proved) -> Resul
     )
 }
 
-/// Writes what a derivation of a query comes to.
-fn tell_verdict<R: AllocGlobal + Print>(rt: &R, query: u32, verdict: Verdict) -> io::Result<()> {
+/// Tells what a derivation of a query comes to.
+fn tell_verdict(out: &mut Spelling, query: u32, verdict: Verdict) {
+    out.put("query ");
     match verdict {
-        Verdict::Yes => println!(rt; "query {query}: checks"),
-        Verdict::No { node, rule } => { println!(rt; "query {query}: node {node}, rule {rule}") }
+        Verdict::Yes => out.put_number(query as u64, ": checks\n"),
+        Verdict::No { node, rule } => {
+            out.put_number(query as u64, ": node ");
+            out.put_number(node as u64, ", rule ");
+            out.put_number(rule as u64, "\n");
+        }
     }
 }
 
-/// Writes what each of these derivations comes to.
-fn tell_verdicts<R: AllocGlobal + Print>(
-    rt: &R,
-    program: &Restricted,
-    all: &[Proved],
-) -> io::Result<()> {
+/// Tells what each of these derivations comes to.
+fn tell_verdicts(out: &mut Spelling, program: &Restricted, all: &[Proved]) {
     for proved in all {
-        let verdict = verdict_on(rt.alloc(), program, proved).map_err(|_| AllocError)?;
-        tell_verdict(rt, proved.query, verdict)?;
+        match verdict_on(out.alloc(), program, proved) {
+            Ok(verdict) => tell_verdict(out, proved.query, verdict),
+            Err(Memory) => out.lose(),
+        }
     }
-    Ok(())
 }
 
-/// Writes what each derivation of a bundle comes to, if its text has no fault.
-fn tell_derivations<R: AllocGlobal + Print>(rt: &R, bundle: &Bundle) -> io::Result<()> {
-    match program_of(rt.alloc(), bundle.text.items()) {
-        Ok(program) => tell_verdicts(rt, &program, bundle.proved.items()),
-        Err(Memory) => Ok(()),
+/// Tells what each derivation of a bundle comes to, if its text has no fault.
+fn tell_derivations(out: &mut Spelling, bundle: &Bundle) {
+    match program_of(out.alloc(), bundle.text.items()) {
+        Ok(program) => tell_verdicts(out, &program, bundle.proved.items()),
+        Err(Memory) => {}
     }
 }
 
@@ -70,46 +73,57 @@ pub fn both_versions(alloc: Global, bundle: &SharedBundle) -> Result<Written, Me
     Ok(Written { full, shared })
 }
 
-/// Writes what a bundle comes to that was read of these bytes.
-fn tell_read<R: Threads + Wait + Sync + AllocGlobal + Print>(
+/// The same of a bundle whose terms share nothing yet.
+pub fn versions_of(alloc: Global, bundle: &Bundle) -> Result<Written, Memory> {
+    let shared = share_bundle(alloc, bundle)?;
+    both_versions(alloc, &shared)
+}
+
+/// Adds a name and whether it is so.
+fn put_whether(out: &mut Spelling, name: &str, is_so: bool) {
+    let word = if is_so { "true" } else { "false" };
+    out.put_all(&[name, ": ", word, "\n"]);
+}
+
+/// Tells what a bundle comes to that was read of these bytes, with its versions.
+fn tell_written<R: Threads + Wait + Sync>(
     rt: &R,
-    bundle: &Bundle,
+    out: &mut Spelling,
+    written: &Written,
     bytes: &[u8],
-) -> io::Result<()> {
-    let shared = share_bundle(rt.alloc(), bundle).map_err(|_| AllocError)?;
-    let written = both_versions(rt.alloc(), &shared).map_err(|_| AllocError)?;
+) {
     let same = written.full.as_slice() == bytes || written.shared.as_slice() == bytes;
-    println!(rt; "written again the same: {same}")?;
-    let alike = are_checked_alike(rt, &written)?;
-    println!(rt; "checked alike in both versions: {alike}")?;
-    tell_derivations(rt, bundle)
+    put_whether(out, "written again the same", same);
+    let alike = are_checked_alike(rt, out, written);
+    put_whether(out, "checked alike in both versions", alike);
 }
 
-/// Writes what bytes come to as a bundle.
-fn tell_bundle<R: Threads + Wait + Sync + AllocGlobal + Print>(
-    rt: &R,
-    bytes: &[u8],
-) -> io::Result<()> {
-    match read_bundle(rt.alloc(), bytes) {
-        Ok(bundle) => tell_read(rt, &bundle, bytes),
-        Err(BundleError::Fault(fault)) => {
-            let (number, word) = (fault.kind.number(), fault.kind.word());
-            println!(rt; "line {}, kind {number} {word}", fault.line)
+/// Tells what bytes come to as a bundle.
+fn tell_bundle<R: Threads + Wait + Sync>(rt: &R, out: &mut Spelling, bytes: &[u8]) {
+    match read_bundle(out.alloc(), bytes) {
+        Ok(bundle) => {
+            match versions_of(out.alloc(), &bundle) {
+                Ok(written) => tell_written(rt, out, &written, bytes),
+                Err(Memory) => out.lose(),
+            }
+            tell_derivations(out, &bundle);
         }
-        Err(BundleError::Memory) => Err(AllocError.into()),
+        Err(BundleError::Fault(fault)) => {
+            out.put("line ");
+            out.put_number(fault.line, ", kind ");
+            out.put_number(fault.kind.number() as u64, " ");
+            out.put_all(&[fault.kind.word(), "\n"]);
+        }
+        Err(BundleError::Memory) => out.lose(),
     }
 }
 
-/// Writes what each bundle of the folder comes to.
-pub fn tell_bundles<R: Threads + Wait + Sync + AllocGlobal + Files + Print>(
-    rt: &R,
-) -> io::Result<()> {
-    let names = fs::read_to_string(rt, "bundles/names")?;
-    for name in names.lines() {
-        println!(rt; "% {name}")?;
-        let bytes = fs::read(rt, &format!(in rt.alloc(); "bundles/{name}")?)?;
-        tell_bundle(rt, &bytes)?;
-        tell_check(rt, &bytes)?;
+/// Tells what each bundle of the folder comes to.
+pub fn tell_bundles<R: Threads + Wait + Sync + AllocGlobal + Files>(rt: &R, out: &mut Spelling) {
+    for name in text_of(rt, out, "bundles", "names").lines() {
+        out.put_all(&["% ", name, "\n"]);
+        let text = text_of(rt, out, "bundles", name);
+        tell_bundle(rt, out, text.as_bytes());
+        tell_check(rt, out, text.as_bytes());
     }
-    Ok(())
 }

@@ -1,9 +1,10 @@
 //! Calls on bytes in memory.
 
+use crate::spelling::Spelling;
+use ap_defs::memory::Memory;
 use ap_io::{Gate, MemSink, MemSource, Sink, Source};
 use ap_top::top;
 use std::alloc::{AllocError, Global};
-use std::io::{self, ErrorKind, Write};
 use std::sync::Wait;
 use std::thread::Threads;
 
@@ -19,6 +20,32 @@ impl Gate for Starts {
     fn may_hold(&self) -> bool {
         true
     }
+}
+
+/// What a call ends with, and what it wrote.
+#[derive(Drop)]
+pub struct Answer {
+    pub status: u8,
+    pub bytes: Vec<u8>,
+}
+
+impl Answer {
+    /// Whether another call ended with the same and wrote the same.
+    pub fn is_same(&self, other: &Answer) -> bool {
+        self.status == other.status && self.bytes == other.bytes
+    }
+
+    /// Tells what was written, and the status.
+    pub fn tell(&self, out: &mut Spelling) {
+        out.put_bytes(&self.bytes);
+        put_status(out, self.status);
+    }
+}
+
+/// Tells a status.
+pub fn put_status(out: &mut Spelling, status: u8) {
+    out.put("% status ");
+    out.put_number(status as u64, "\n");
 }
 
 /// The words of a command line.
@@ -54,96 +81,130 @@ pub fn status_of<R: Threads + Wait + Sync, S: Source, K: Sink, G: Gate>(
     top(rt, alloc, words, source, sink, gate).code()
 }
 
-/// The status of a call whose reads of these numbers fail, and which writes into a sink. As many workers as the words
+/// What a call answers whose reads of these numbers fail, and which writes into a sink. As many workers as the words
 /// ask for are started for each search, however short it is.
-pub fn call_into<R: Threads + Wait + Sync + AllocGlobal>(
+pub fn called<R: Threads + Wait + Sync>(
     rt: &R,
+    alloc: Global,
     words: &[String],
     input: &[u8],
     fails: Vec<u64>,
-    sink: &mut MemSink,
-) -> Result<u8, AllocError> {
-    let mut source = MemSource::new(input.to_vec(rt.alloc())?, fails);
-    Ok(status_of(rt, rt.alloc(), words, &mut source, sink, &Starts))
+    mut sink: MemSink,
+) -> Result<Answer, Memory> {
+    let mut source = MemSource::new(input.to_vec(alloc)?, fails);
+    let status = status_of(rt, alloc, words, &mut source, &mut sink, &Starts);
+    let bytes = sink.bytes().to_vec(alloc)?;
+    Ok(Answer { status, bytes })
 }
 
-/// The status and the bytes of a call whose reads of these numbers fail.
-pub fn call<R: Threads + Wait + Sync + AllocGlobal>(
-    rt: &R,
-    words: &[String],
-    input: &[u8],
-    fails: Vec<u64>,
-) -> io::Result<(u8, MemSink)> {
-    let alloc = rt.alloc();
-    let Ok(mut sink) = MemSink::new(alloc, ROOM, ROOM, Vec::new(alloc)) else {
-        return Err(ErrorKind::OutOfMemory.into());
-    };
-    let status = call_into(rt, words, input, fails, &mut sink)?;
-    Ok((status, sink))
-}
-
-/// The status and the bytes of a call that reads all of its input.
-pub fn answer<R: Threads + Wait + Sync + AllocGlobal>(
-    rt: &R,
-    words: &[&str],
-    input: &[u8],
-) -> io::Result<(u8, MemSink)> {
-    let words = words_of(rt.alloc(), words)?;
-    call(rt, &words, input, Vec::new(rt.alloc()))
-}
-
-/// What so many workers write for a text, with the status.
-fn answer_by<R: Threads + Wait + Sync + AllocGlobal>(
-    rt: &R,
-    command: &str,
-    depth: &str,
-    text: &[u8],
-    workers: &str,
-) -> io::Result<(u8, MemSink)> {
-    let words = [command, "--depth", depth, "--workers", workers];
-    answer(rt, &words, text)
-}
-
-/// Whether so many workers write these bytes with this status.
-fn write_same<R: Threads + Wait + Sync + AllocGlobal>(
-    rt: &R,
-    command: &str,
-    depth: &str,
-    text: &[u8],
-    workers: &str,
-    first: (u8, &[u8]),
-) -> io::Result<bool> {
-    let (status, sink) = answer_by(rt, command, depth, text, workers)?;
-    Ok(status == first.0 && sink.bytes() == first.1)
-}
-
-/// Writes a line for each number of workers that write otherwise.
-fn compare<R: Threads + Wait + Sync + AllocGlobal + Print>(
-    rt: &R,
-    command: &str,
-    depth: &str,
-    text: &[u8],
-    several: &[&str],
-    first: (u8, &[u8]),
-) -> io::Result<()> {
-    for workers in several {
-        if !write_same(rt, command, depth, text, workers, first)? {
-            println!(rt; "% {workers} workers write otherwise")?;
+/// The answer, or an empty one where it is lost.
+fn kept(out: &mut Spelling, made: Result<Answer, Memory>) -> Answer {
+    match made {
+        Ok(answer) => answer,
+        Err(Memory) => {
+            out.lose();
+            Answer {
+                status: 0,
+                bytes: Vec::new(out.alloc()),
+            }
         }
     }
-    Ok(())
 }
 
-/// Writes what one worker writes for a text, a line for each number of workers that write otherwise, and the status.
-pub fn tell_by<R: Threads + Wait + Sync + AllocGlobal + Print>(
+/// What a call answers whose reads of these numbers fail.
+fn call<R: Threads + Wait + Sync>(
     rt: &R,
+    alloc: Global,
+    words: &[String],
+    input: &[u8],
+    fails: Vec<u64>,
+) -> Result<Answer, Memory> {
+    let sink = MemSink::new(alloc, ROOM, ROOM, Vec::new(alloc))?;
+    called(rt, alloc, words, input, fails, sink)
+}
+
+/// What a call answers that reads all of its input.
+pub fn answer_to<R: Threads + Wait + Sync>(
+    rt: &R,
+    out: &mut Spelling,
+    words: &[String],
+    input: &[u8],
+) -> Answer {
+    let alloc = out.alloc();
+    kept(out, call(rt, alloc, words, input, Vec::new(alloc)))
+}
+
+/// What a call answers whose first read fails.
+pub fn answer_unread<R: Threads + Wait + Sync>(
+    rt: &R,
+    out: &mut Spelling,
+    words: &[String],
+    input: &[u8],
+) -> Answer {
+    let alloc = out.alloc();
+    match Vec::from_array(alloc, [1]) {
+        Ok(fails) => kept(out, call(rt, alloc, words, input, fails)),
+        Err(_) => kept(out, Err(Memory)),
+    }
+}
+
+/// What a call by these words answers.
+pub fn answer_by<R: Threads + Wait + Sync>(
+    rt: &R,
+    out: &mut Spelling,
+    words: &[&str],
+    input: &[u8],
+) -> Answer {
+    match words_of(out.alloc(), words) {
+        Ok(words) => answer_to(rt, out, &words, input),
+        Err(_) => kept(out, Err(Memory)),
+    }
+}
+
+/// What a call by the words of a line answers.
+pub fn answer_line<R: Threads + Wait + Sync>(
+    rt: &R,
+    out: &mut Spelling,
+    line: &str,
+    input: &[u8],
+) -> Answer {
+    match words_in(out.alloc(), line) {
+        Ok(words) => answer_to(rt, out, &words, input),
+        Err(_) => kept(out, Err(Memory)),
+    }
+}
+
+/// What a call by a command and to a depth answers, by so many workers.
+fn answer_with<R: Threads + Wait + Sync>(
+    rt: &R,
+    out: &mut Spelling,
+    command: &str,
+    depth: &str,
+    workers: &str,
+    text: &[u8],
+) -> Answer {
+    let words = [command, "--depth", depth, "--workers", workers];
+    answer_by(rt, out, &words, text)
+}
+
+/// Tells what one worker writes for a text by a command and to a depth, a line for each number of workers that answer
+/// otherwise, and the status.
+pub fn tell_by<R: Threads + Wait + Sync>(
+    rt: &R,
+    out: &mut Spelling,
     command: &str,
     depth: &str,
     text: &[u8],
     several: &[&str],
-) -> io::Result<()> {
-    let (status, sink) = answer_by(rt, command, depth, text, "1")?;
-    io::writer(rt).write_all(sink.bytes())?;
-    compare(rt, command, depth, text, several, (status, sink.bytes()))?;
-    println!(rt; "% status {status}")
+) {
+    let first = answer_with(rt, out, command, depth, "1", text);
+    out.put_bytes(&first.bytes);
+    for workers in several {
+        if !answer_with(rt, out, command, depth, workers, text).is_same(&first) {
+            out.put("% ");
+            out.put(workers);
+            out.put(" workers write otherwise\n");
+        }
+    }
+    put_status(out, first.status);
 }

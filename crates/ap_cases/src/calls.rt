@@ -4,9 +4,9 @@ ghost use Rattle.ap_backchain.specs.Branches.{IsBranchOf};
 ghost use Rattle.ap_backchain.specs.Problems.{HasQuery};
 
 use crate::applied::covers;
-use crate::cases::DIVIDER;
-use crate::covering::path_text;
+use crate::covering::put_path;
 use crate::problems::{problem_of, program_of};
+use crate::spelling::Spelling;
 use ap_backchain::branch::Branch;
 use ap_backchain::problem::{Problem, query_of_problem};
 use ap_bundle_read::read_bundle;
@@ -22,9 +22,7 @@ use ap_index::index::Index;
 use ap_program::restricted::Restricted;
 use ap_replay::replay::at;
 use ap_shared::sharing::shared;
-use std::alloc::{AllocError, Global};
-use std::fs::Files;
-use std::{fs, io};
+use std::alloc::Global;
 
 /// What covers a proof, if it is one that the call takes.
 fn covered_by(alloc: Global, p: &Problem<'_>, proved: &Proved) -> Result<Option<Covered>, Memory>
@@ -96,47 +94,30 @@ fn is_stuck(alloc: Global, p: &Problem<'_>, path: &Path) -> Result<bool, Memory>
     }
 }
 
-/// What comes of a call: a line that says it, and whether that is so.
-#[derive(Drop)]
+/// What comes of a call: whether it gives an answer, and whether what it gives holds.
+#[derive(Clone, Copy)]
 struct Call {
-    line: String,
+    is_answer: bool,
     holds: bool,
 }
 
-/// Swappings, each by its sort and its two numbers.
-fn swaps_text(alloc: Global, swaps: &[Swap]) -> Result<String, AllocError> {
-    let mut text = String::new(alloc);
+/// Adds swappings, each by its sort and its two numbers.
+fn put_swaps(out: &mut Spelling, swaps: &[Swap]) {
     for swap in swaps {
-        let Swap { sort, left, right } = *swap;
-        text.push_str(&format!(in alloc; " {sort}:{left}-{right}")?)?;
+        out.put(" ");
+        out.put_number(swap.sort as u64, ":");
+        out.put_number(swap.left, "-");
+        out.put_number(swap.right, "");
     }
-    if text.is_empty() {
-        text.push_str(" -")?;
+    if swaps.is_empty() {
+        out.put(" -");
     }
-    Ok(text)
 }
 
-/// The line of an answer at a path that covers by swappings and so many ground terms.
-fn answer_line(
-    alloc: Global,
-    path: &Path,
-    swaps: &[Swap],
-    terms: usize,
-) -> Result<String, AllocError> {
-    let way = path_text(alloc, path.choices())?;
-    let exchanged = swaps_text(alloc, swaps)?;
-    format!(in alloc; "answer at {way}, swappings{exchanged}, {terms} terms")
-}
-
-/// The line of a stuck branch at a path.
-fn stuck_line(alloc: Global, path: &Path) -> Result<String, AllocError> {
-    let way = path_text(alloc, path.choices())?;
-    format!(in alloc; "stuck at {way}")
-}
-
-/// What comes of a call that was answered.
+/// What comes of a call that was answered. Adds what it gives.
 fn answered(
     alloc: Global,
+    out: &mut Spelling,
     p: &Problem<'_>,
     covered: &Covered,
     proved: &Proved,
@@ -149,106 +130,103 @@ fn answered(
             swaps,
             grounding,
         } => {
+            out.put("answer at ");
+            put_path(out, path.choices());
+            out.put(", swappings");
+            put_swaps(out, swaps.items());
+            out.put(", ");
+            out.put_number(grounding.items().len() as u64, " terms");
             let holds = answer_covers(alloc, p, path, covered, proved)?;
-            let line = answer_line(alloc, path, swaps.items(), grounding.items().len())?;
-            Ok(Call { line, holds })
+            Ok(Call {
+                is_answer: true,
+                holds,
+            })
         }
         Covered::Stuck { path } => {
+            out.put("stuck at ");
+            put_path(out, path.choices());
             let holds = is_stuck(alloc, p, path)?;
-            let line = stuck_line(alloc, path)?;
-            Ok(Call { line, holds })
+            Ok(Call {
+                is_answer: false,
+                holds,
+            })
         }
     }
 }
 
-/// What comes of the call on a proof of a problem's query.
-fn call_on(alloc: Global, p: &Problem<'_>, proved: &Proved) -> Result<Call, Memory>
+/// What comes of the call on a proof of a problem's query. Adds what it gives.
+fn call_on(
+    alloc: Global,
+    out: &mut Spelling,
+    p: &Problem<'_>,
+    proved: &Proved,
+) -> Result<Call, Memory>
     requires { HasQuery p.now }
 {
     match covered_by(alloc, p, proved)? {
-        Some(covered) => answered(alloc, p, &covered, proved),
+        Some(covered) => answered(alloc, out, p, &covered, proved),
         None => {
-            let line = "not taken".to_string(alloc)?;
-            Ok(Call { line, holds: true })
+            out.put("not taken");
+            Ok(Call {
+                is_answer: false,
+                holds: true,
+            })
         }
     }
 }
 
-/// What comes of the call on a proof of a query of a program with its index.
-fn call_in(alloc: Global, depth: u32, index: &Index<'_>, one: &Proved) -> Result<Call, Memory> {
-    match problem_of(index, one.query, depth) {
-        Some(problem) => call_on(alloc, &problem, one),
-        None => Err(Memory),
-    }
-}
-
-/// What comes of the call on each proof of queries of a program with its index.
+/// Whether the call gives for each proof of queries of a program with its index an answer that covers it. Adds a line for
+/// each.
 fn calls_in(
-    alloc: Global,
+    out: &mut Spelling,
     depth: u32,
     index: &Index<'_>,
     proved: &[Proved],
-) -> Result<Vec<Call>, Memory> {
-    let mut calls = Vec::new(alloc);
-    for one in proved {
-        calls.push(call_in(alloc, depth, index, one)?)?;
-    }
-    Ok(calls)
-}
-
-/// What comes of the call on each proof of queries of a program.
-fn calls_of(
-    alloc: Global,
-    depth: u32,
-    program: &Restricted,
-    proved: &[Proved],
-) -> Result<Vec<Call>, Memory> {
-    let index = Index::of(alloc, program)?;
-    calls_in(alloc, depth, &index, proved)
-}
-
-/// What comes of the call on each proof of a bundle.
-fn calls_on(alloc: Global, depth: u32, bytes: &[u8]) -> Result<Vec<Call>, Memory> {
-    let bundle = read_bundle(alloc, bytes).or(Err(Memory))?;
-    let program = program_of(alloc, bundle.text.items())?;
-    calls_of(alloc, depth, &program, bundle.proved.items())
-}
-
-/// Whether the call gives for each proof of a bundle an answer that covers it.
-pub fn are_answered(alloc: Global, depth: u32, bytes: &[u8]) -> io::Result<bool> {
-    let calls = calls_on(alloc, depth, bytes).map_err(|_| AllocError)?;
+) -> Result<bool, Memory> {
     let mut all = true;
-    for call in calls.as_slice() {
-        all = all && call.holds && call.line.starts_with("answer");
+    for one in proved {
+        let Some(problem) = problem_of(index, one.query, depth) else {
+            return Err(Memory);
+        };
+        let call = call_on(out.alloc(), out, &problem, one)?;
+        all = all && call.is_answer && call.holds;
+        out.put(if call.holds {
+            "\n"
+        } else {
+            ", which does not hold\n"
+        });
     }
     Ok(all)
 }
 
-/// What the call gives for each proof of a bundle, a line for each.
-fn lines_of_calls(alloc: Global, depth: u32, bytes: &[u8]) -> io::Result<String> {
-    let calls = calls_on(alloc, depth, bytes).map_err(|_| AllocError)?;
-    let mut lines = String::new(alloc);
-    for call in calls.as_slice() {
-        let holds = if call.holds {
-            ""
-        } else {
-            ", which does not hold"
-        };
-        let line = &call.line;
-        lines.push_str(&format!(in alloc; "{line}{holds}\n")?)?;
-    }
-    Ok(lines)
+/// The same for queries of a program.
+fn calls_of(
+    out: &mut Spelling,
+    depth: u32,
+    program: &Restricted,
+    proved: &[Proved],
+) -> Result<bool, Memory> {
+    let index = Index::of(out.alloc(), program)?;
+    calls_in(out, depth, &index, proved)
 }
 
-/// Writes what the call gives for each proof of a file's bundles, each of which stands behind a line with a depth.
-pub fn call_file<R: AllocGlobal + Files + Print>(rt: &R, name: &str) -> io::Result<()> {
-    let file = fs::read_to_string(rt, name)?;
-    for part in file.split(DIVIDER) {
-        if let Some((depth, bundle)) = part.split_once('\n') {
-            let depth = depth.parse::<u32>().unwrap_or(0);
-            let lines = lines_of_calls(rt.alloc(), depth, bundle.as_bytes())?;
-            print!(rt; "{lines}")?;
-        }
+/// The same for the proofs of a bundle.
+fn calls_on(out: &mut Spelling, depth: u32, bytes: &[u8]) -> Result<bool, Memory> {
+    let bundle = read_bundle(out.alloc(), bytes).or(Err(Memory))?;
+    let program = program_of(out.alloc(), bundle.text.items())?;
+    calls_of(out, depth, &program, bundle.proved.items())
+}
+
+/// Whether the call gives for each proof of a bundle an answer that covers it.
+pub fn are_answered(alloc: Global, depth: u32, bytes: &[u8]) -> bool {
+    let mut lines = Spelling::new(alloc);
+    calls_on(&mut lines, depth, bytes).unwrap_or(false)
+}
+
+/// Tells what the call gives for each proof of a bundle, which stands behind a line with a depth.
+pub fn call_all(out: &mut Spelling, depth: &str, bundle: &str) {
+    let depth = depth.parse::<u32>().unwrap_or(0);
+    if calls_on(out, depth, bundle.as_bytes()).is_err() {
+        out.lose();
     }
-    Ok(())
 }

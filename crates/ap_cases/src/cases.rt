@@ -4,43 +4,41 @@
 
 use crate::call::tell_by;
 use crate::derivations::{NONE, Tally, tally_of, tell};
-use std::fs::Files;
+use crate::files::DIVIDER;
+use crate::spelling::Spelling;
 use std::sync::Wait;
 use std::thread::Threads;
-use std::{fs, io};
-
-/// What divides the parts of a file of texts.
-pub const DIVIDER: &str = "\n----\n";
 
 const SEVERAL: [&str; 3] = ["2", "8", "64"];
 
-/// Writes the text's last part, and what the top call writes for the text, with the status. Its answers are counted.
-fn run<R: Threads + Wait + Sync + AllocGlobal + Print>(
+/// Tells the text's last part, and what the top call writes for the text, with the status. Its answers are counted.
+fn run<R: Threads + Wait + Sync>(
     rt: &R,
+    out: &mut Spelling,
     depth: &str,
     begin: &str,
     end: &str,
-) -> io::Result<Tally> {
-    let text = format!(in rt.alloc(); "{begin}{end}")?;
-    println!(rt; "{end}")?;
-    tell_by(rt, "run", depth, text.as_bytes(), &SEVERAL)?;
-    tally_of(rt, depth, &text)
+) -> Tally {
+    let mut text = Spelling::new(out.alloc());
+    text.put_all(&[begin, end]);
+    out.put_all(&[end, "\n"]);
+    tell_by(rt, out, "run", depth, text.text().as_bytes(), &SEVERAL);
+    tally_of(rt, out, depth, text.text())
 }
 
 /// Runs the texts of a file.
-pub fn run_file<R: Threads + Wait + Sync + AllocGlobal + Files + Print>(
-    rt: &R,
-    name: &str,
-) -> io::Result<()> {
-    let all = fs::read_to_string(rt, name)?;
+pub fn run_texts<R: Threads + Wait + Sync>(rt: &R, out: &mut Spelling, name: &str, all: &str) {
     let mut parts = all.trim_end().split(DIVIDER);
     let depth = parts.next().unwrap_or("");
     let begin = parts.next().unwrap_or("");
-    println!(rt; "% {name}, depth {depth}")?;
+    out.put("% ");
+    out.put(name);
+    out.put(", depth ");
+    out.put(depth);
+    out.put("\n");
     let mut tally = NONE;
     for end in parts {
-        let more = run(rt, depth, begin, end)?;
-        tally = tally.plus(more);
+        tally = tally.plus(run(rt, out, depth, begin, end));
     }
-    tell(rt, name, tally)
+    tell(out, name, tally);
 }

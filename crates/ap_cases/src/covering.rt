@@ -5,19 +5,18 @@
 //! exchanged in a way of its own. The library's call is made on each of them too, and it is looked at term by term whether
 //! what it gives covers the proof.
 
-use crate::bundles::both_versions;
+use crate::bundles::versions_of;
 use crate::calls::are_answered;
-use crate::proving::{Written, is_written};
+use crate::proving::{Written, are_written};
 use crate::renamed::renamed;
+use crate::spelling::Spelling;
 use ap_bundle_read::read_bundle;
 use ap_cover::ground::is_ground;
 use ap_cover::path::path_of;
 use ap_defs::lists::List;
 use ap_defs::memory::Memory;
 use ap_defs::outcomes::{Bundle, Proved};
-use ap_shared::sharing::share_bundle;
-use std::alloc::{AllocError, Global};
-use std::io;
+use std::alloc::Global;
 use std::sync::Wait;
 use std::thread::Threads;
 
@@ -38,39 +37,39 @@ fn next_place(last: Place, query: u32) -> Place {
     Place { query, number }
 }
 
-/// A path with dots.
-pub fn path_text(alloc: Global, choices: &[u32]) -> Result<String, AllocError> {
-    let mut text = String::new(alloc);
+/// Adds a path with dots.
+pub fn put_path(out: &mut Spelling, choices: &[u32]) {
+    let mut dot = "";
     for choice in choices {
-        if !text.is_empty() {
-            text.push_str(".")?;
-        }
-        text.push_str(&format!(in alloc; "{choice}")?)?;
+        out.put(dot);
+        out.put_number(*choice as u64, "");
+        dot = ".";
     }
-    if text.is_empty() {
-        text.push_str("-")?;
+    if choices.is_empty() {
+        out.put("-");
     }
-    Ok(text)
 }
 
-/// The line that is wanted of a proof with this number, which is of the answer at a place.
-fn line_of(alloc: Global, number: usize, place: Place, proved: &Proved) -> Result<String, Memory> {
-    let path = path_of(alloc, &proved.derivation)?;
-    let path = path_text(alloc, path.choices())?;
-    let Place {
-        query,
-        number: answer,
-    } = place;
-    let line = format!(in alloc;
-        "% proof {number}: answer {answer} of query {query}, path {path}\n"
-    )?;
-    Ok(line)
+/// Adds the line that is wanted of a proof with this number, which is of the answer at a place.
+fn put_wanted(
+    out: &mut Spelling,
+    number: usize,
+    place: Place,
+    proved: &Proved,
+) -> Result<(), Memory> {
+    let path = path_of(out.alloc(), &proved.derivation)?;
+    out.put("% proof ");
+    out.put_number(number as u64, ": answer ");
+    out.put_number(place.number as u64, " of query ");
+    out.put_number(place.query as u64, ", path ");
+    put_path(out, path.choices());
+    out.put("\n");
+    Ok(())
 }
 
-/// The ground proofs of answers, and the lines that are wanted of them.
-fn ground_proofs(alloc: Global, all: Vec<Proved>) -> Result<(Vec<Proved>, String), Memory> {
-    let mut kept = Vec::new(alloc);
-    let mut lines = String::new(alloc);
+/// The ground proofs of answers. Adds the lines that are wanted of them.
+fn ground_proofs(lines: &mut Spelling, all: Vec<Proved>) -> Result<Vec<Proved>, Memory> {
+    let mut kept = Vec::new(lines.alloc());
     let mut place = Place {
         query: 0,
         number: 0,
@@ -78,74 +77,92 @@ fn ground_proofs(alloc: Global, all: Vec<Proved>) -> Result<(Vec<Proved>, String
     for proved in all {
         place = next_place(place, proved.query);
         if is_ground(&proved) {
-            let number = kept.len().saturating_add(1);
-            lines.push_str(&line_of(alloc, number, place, &proved)?)?;
+            put_wanted(lines, kept.len().saturating_add(1), place, &proved)?;
             kept.push(proved)?;
         }
     }
-    Ok((kept, lines))
+    Ok(kept)
 }
 
-/// So many ground proofs of a text: their bundle in both versions, and with their names exchanged; and what `cover`
-/// is to write of them.
+/// So many ground proofs of a text: their bundle in both versions, and with their names exchanged.
 #[derive(Drop)]
 struct Grounds {
     count: usize,
     written: Written,
-    renamed: Vec<u8>,
-    lines: String,
+    renamed: Spelling,
 }
 
-/// The ground proofs of a text's bundle.
-fn grounds_in(alloc: Global, bytes: &[u8]) -> Result<(Bundle, String), Memory> {
-    let Bundle { text, proved } = read_bundle(alloc, bytes).or(Err(Memory))?;
-    let (kept, lines) = ground_proofs(alloc, proved.into_vec())?;
-    let proved = List::of(kept);
-    Ok((Bundle { text, proved }, lines))
+/// The ground proofs of a text's bundle. Adds the lines that are wanted of them.
+fn grounds_in(lines: &mut Spelling, bytes: &[u8]) -> Result<Bundle, Memory> {
+    let Bundle { text, proved } = read_bundle(lines.alloc(), bytes).or(Err(Memory))?;
+    let proved = List::of(ground_proofs(lines, proved.into_vec())?);
+    Ok(Bundle { text, proved })
 }
 
-/// The ground proofs of a text's bundle, as they are written.
-fn grounds_of(alloc: Global, bytes: &[u8]) -> io::Result<Grounds> {
-    let (bundle, lines) = grounds_in(alloc, bytes).map_err(|_| AllocError)?;
-    let shared = share_bundle(alloc, &bundle).map_err(|_| AllocError)?;
-    let written = both_versions(alloc, &shared).map_err(|_| AllocError)?;
-    let renamed = renamed(alloc, &written.full, bundle.text.items().len())?;
-    let count = bundle.proved.items().len();
+/// Ground proofs, as they are written.
+fn grounds_of(alloc: Global, bundle: &Bundle) -> Result<Grounds, Memory> {
+    let written = versions_of(alloc, bundle)?;
+    let renamed = renamed(alloc, &written.full, bundle.text.items().len());
     Ok(Grounds {
-        count,
+        count: bundle.proved.items().len(),
         written,
         renamed,
-        lines,
     })
 }
 
-/// Whether `cover` writes of each of these proofs, in both versions and with its names exchanged, that the answer
-/// covers it that it is of, and the library's call gives values by which it does.
-fn are_covered<R: Threads + Wait + Sync + AllocGlobal>(
+/// The ground proofs of a text's bundle, as they are written. Adds the lines that are wanted of them.
+fn read_grounds(lines: &mut Spelling, bytes: &[u8]) -> Result<Grounds, Memory> {
+    let bundle = grounds_in(lines, bytes)?;
+    grounds_of(lines.alloc(), &bundle)
+}
+
+/// Whether `cover` writes these lines of proofs, in both versions and with their names exchanged: that the answer covers
+/// each that it is of; and whether the library's call gives values by which it does.
+fn are_covered<R: Threads + Wait + Sync>(
     rt: &R,
+    out: &mut Spelling,
     depth: &str,
+    lines: &str,
     grounds: &Grounds,
-) -> io::Result<bool> {
-    let wanted = grounds.lines.as_bytes();
-    let alone = ["cover", "--depth", depth];
-    let full = is_written(rt, &alone, &grounds.written.full, wanted)?;
-    let many = ["cover", "--depth", depth, "--workers", "8"];
-    let shared = is_written(rt, &many, &grounds.written.shared, wanted)?;
-    let renamed = is_written(rt, &many, &grounds.renamed, wanted)?;
+) -> bool {
+    let wanted = lines.as_bytes();
+    let (full, shared) = (
+        grounds.written.full.as_slice(),
+        grounds.written.shared.as_slice(),
+    );
+    let renamed = grounds.renamed.text().as_bytes();
+    let alone: &[&str] = &["cover", "--depth", depth];
+    let many: &[&str] = &["cover", "--depth", depth, "--workers", "8"];
+    let calls = [
+        (alone, full, wanted),
+        (many, shared, wanted),
+        (many, renamed, wanted),
+    ];
     let number = depth.parse::<u32>().unwrap_or(0);
-    let called = are_answered(rt.alloc(), number, &grounds.written.shared)?;
-    Ok(full && shared && renamed && called && are_answered(rt.alloc(), number, &grounds.renamed)?)
+    let written = are_written(rt, out, &calls);
+    written
+        && are_answered(out.alloc(), number, shared)
+        && are_answered(out.alloc(), number, renamed)
 }
 
 /// How many ground proofs a bundle of a text's answers has, and a line where `cover` writes otherwise for them.
-pub fn cover_bundle<R: Threads + Wait + Sync + AllocGlobal + Print>(
+pub fn cover_bundle<R: Threads + Wait + Sync>(
     rt: &R,
+    out: &mut Spelling,
     depth: &str,
     bytes: &[u8],
-) -> io::Result<usize> {
-    let grounds = grounds_of(rt.alloc(), bytes)?;
-    if grounds.count > 0 && !are_covered(rt, depth, &grounds)? {
-        println!(rt; "% cover writes otherwise")?;
+) -> usize {
+    let mut lines = Spelling::new(out.alloc());
+    match read_grounds(&mut lines, bytes) {
+        Ok(found) => {
+            if found.count > 0 && !are_covered(rt, out, depth, lines.text(), &found) {
+                out.put("% cover writes otherwise\n");
+            }
+            found.count
+        }
+        Err(Memory) => {
+            out.lose();
+            0
+        }
     }
-    Ok(grounds.count)
 }

@@ -10,6 +10,7 @@ use crate::bundles::{both_versions, verdict_on};
 use crate::covering::cover_bundle;
 use crate::problems::program_of;
 use crate::proving::{Written, are_proved};
+use crate::spelling::Spelling;
 use ap_backchain::branch::Branch;
 use ap_backchain::problem::{Problem, outputs};
 use ap_bundle_read::read_bundle;
@@ -26,14 +27,13 @@ use ap_replay::replay::at;
 use ap_shared::arena::SharedTerms;
 use ap_shared::derivations::{SharedBundle, SharedProved};
 use ap_shared::sharing::share_answer;
-use std::alloc::{AllocError, Global};
-use std::io;
+use std::alloc::Global;
 use std::rc::Rc;
 use std::sync::Wait;
 use std::thread::Threads;
 
 /// The answer at which a branch stands, with its derivation, or none at another branch.
-fn proved_at<'a>(
+pub fn proved_at<'a>(
     alloc: Global,
     problem: &Problem<'a>,
     branch: &Branch<'a>,
@@ -188,82 +188,85 @@ fn bundle_bytes(alloc: Global, text: &str, proved: Vec<SharedProved>) -> Result<
     both_versions(alloc, &bundle)
 }
 
-/// How many answers a text's program has, and their bundle.
-fn proved_text(
-    alloc: Global,
-    text: &str,
-    program: &Restricted,
-    depth: u32,
-) -> Result<(usize, Written), Memory> {
-    let proved = prove_program(alloc, program, depth)?;
-    let answers = proved.len();
-    Ok((answers, bundle_bytes(alloc, text, proved)?))
+/// A bundle of all answers of a text's program, how many these are, and how many of their derivations check.
+#[derive(Drop)]
+struct Checked {
+    written: Written,
+    answers: usize,
+    checked: usize,
 }
 
-/// The answers that a bundle is of, and a line where `prove`, `check`, `convert` or `cover` write anything else.
-fn tally_written<R: Threads + Wait + Sync + AllocGlobal + Print>(
+/// The answers of a text, and a line where `prove`, `check`, `convert` or `cover` write anything else.
+fn tally_written<R: Threads + Wait + Sync>(
     rt: &R,
+    out: &mut Spelling,
     depth: &str,
     text: &[u8],
-    written: &Written,
-    counts: (usize, usize),
-) -> io::Result<Tally> {
-    let (answers, checked) = counts;
-    if !are_proved(rt, text, depth, written, answers)? {
-        println!(rt; "% prove, check or convert writes otherwise")?;
+    found: &Checked,
+) -> Tally {
+    if !are_proved(rt, out, text, depth, &found.written, found.answers) {
+        out.put("% prove, check or convert writes otherwise\n");
     }
-    let grounds = cover_bundle(rt, depth, &written.shared)?;
-    Ok(Tally {
-        answers,
-        checked,
-        grounds,
-    })
+    Tally {
+        answers: found.answers,
+        checked: found.checked,
+        grounds: cover_bundle(rt, out, depth, &found.written.shared),
+    }
 }
 
-/// How many answers a text's program has, their bundle, and how many of its derivations check.
+/// The bundle of the answers of a text's program.
 fn checked_text(
     alloc: Global,
     text: &str,
     program: &Restricted,
     depth: u32,
-) -> Result<(Written, (usize, usize)), Memory> {
-    let (answers, written) = proved_text(alloc, text, program, depth)?;
+) -> Result<Checked, Memory> {
+    let proved = prove_program(alloc, program, depth)?;
+    let answers = proved.len();
+    let written = bundle_bytes(alloc, text, proved)?;
     let checked = checked_in(alloc, &written.shared, program)?;
-    Ok((written, (answers, checked)))
+    Ok(Checked {
+        written,
+        answers,
+        checked,
+    })
 }
 
 /// The answers of a text's program, and lines where a command writes otherwise for them.
-fn tally_in<R: Threads + Wait + Sync + AllocGlobal + Print>(
+fn tally_in<R: Threads + Wait + Sync>(
     rt: &R,
+    out: &mut Spelling,
     depth: &str,
     text: &str,
     program: &Restricted,
-) -> io::Result<Tally> {
+) -> Tally {
     let number = depth.parse::<u32>().unwrap_or(1);
-    let (written, counts) = checked_text(rt.alloc(), text, program, number).map_err(
-        |_| AllocError,
-    )?;
-    tally_written(rt, depth, text.as_bytes(), &written, counts)
-}
-
-/// The answers of a text, and lines where a command writes otherwise for them. A text with a fault has none.
-pub fn tally_of<R: Threads + Wait + Sync + AllocGlobal + Print>(
-    rt: &R,
-    depth: &str,
-    text: &str,
-) -> io::Result<Tally> {
-    match program_of(rt.alloc(), text.as_bytes()) {
-        Ok(program) => tally_in(rt, depth, text, &program),
-        Err(Memory) => Ok(NONE),
+    match checked_text(out.alloc(), text, program, number) {
+        Ok(found) => tally_written(rt, out, depth, text.as_bytes(), &found),
+        Err(Memory) => {
+            out.lose();
+            NONE
+        }
     }
 }
 
-/// Writes what texts come to together.
-pub fn tell<R: Print>(rt: &R, name: &str, tally: Tally) -> io::Result<()> {
-    let Tally {
-        answers,
-        checked,
-        grounds,
-    } = tally;
-    println!(rt; "{name}: {answers} answers, {checked} derivations check, {grounds} ground proofs")
+/// The answers of a text, and lines where a command writes otherwise for them. A text with a fault has none.
+pub fn tally_of<R: Threads + Wait + Sync>(
+    rt: &R,
+    out: &mut Spelling,
+    depth: &str,
+    text: &str,
+) -> Tally {
+    match program_of(out.alloc(), text.as_bytes()) {
+        Ok(program) => tally_in(rt, out, depth, text, &program),
+        Err(Memory) => NONE,
+    }
+}
+
+/// Tells what texts come to together.
+pub fn tell(out: &mut Spelling, name: &str, tally: Tally) {
+    out.put_all(&[name, ": "]);
+    out.put_number(tally.answers as u64, " answers, ");
+    out.put_number(tally.checked as u64, " derivations check, ");
+    out.put_number(tally.grounds as u64, " ground proofs\n");
 }

@@ -7,28 +7,12 @@
 ghost use Rattle.std.specs.Prelude.{◌≡◌, ◌≤◌, length};
 ghost use Rattle.ap_defs.specs.Limits.{size_limit};
 
-use crate::texts::DIVIDER;
+use crate::files::DIVIDER;
+use crate::spelling::Spelling;
 use ap_defs::limits::SIZE_LIMIT;
 use ap_defs::memory::Memory;
 use ap_explain::explain_text;
 use ap_remarks::{Tally, branch_remarks, warnings};
-use std::alloc::Global;
-use std::fs::Files;
-use std::io::ErrorKind;
-use std::{fs, io};
-
-const FILES: [&str; 10] = [
-    "mistakes.cases",
-    "characters.cases",
-    "grammar.cases",
-    "nesting.cases",
-    "words.cases",
-    "clashes.cases",
-    "kinds.cases",
-    "names.cases",
-    "lines.cases",
-    "remarks.cases",
-];
 
 // Texts that are not UTF-8.
 const BYTES: [&[u8]; 4] = [
@@ -38,65 +22,53 @@ const BYTES: [&[u8]; 4] = [
     b"z\xC3\xA9 : exp\xC3(",
 ];
 
-// Adds what is said beside the report of a text.
-fn add_remarks(alloc: Global, out: &mut String, text: &[u8]) -> Result<(), Memory>
+// Tells what is said beside the report of a text.
+fn put_remarks(out: &mut Spelling, text: &[u8]) -> Result<(), Memory>
     requires { length text.now ≤ size_limit }
 {
     let mut tally = Tally::new();
     tally.add(text);
-    out.push_str(warnings(alloc, text)?.as_str())?;
-    out.push_str(branch_remarks(alloc, text, tally)?.as_str())?;
+    out.put(warnings(out.alloc(), text)?.as_str());
+    out.put(branch_remarks(out.alloc(), text, tally)?.as_str());
     Ok(())
 }
 
-// What is written of a text.
-fn said_of(alloc: Global, text: &[u8]) -> Result<String, Memory>
+// Tells what is written of a text.
+fn put_said(out: &mut Spelling, text: &[u8]) -> Result<(), Memory>
     requires { length text.now ≤ size_limit }
 {
-    let mut said = explain_text(alloc, text)?;
+    let said = explain_text(out.alloc(), text)?;
     if said.is_empty() {
-        add_remarks(alloc, &mut said, text)?;
+        return put_remarks(out, text);
     }
-    Ok(said)
+    out.put(said.as_str());
+    Ok(())
 }
 
-// Writes what is written of a text.
-fn show<R: AllocGlobal + Print>(rt: &R, text: &[u8]) -> io::Result<()> {
-    if text.len() > SIZE_LIMIT {
-        return Err(ErrorKind::InvalidInput.into());
+// Tells what is written of a text.
+fn explain(out: &mut Spelling, text: &[u8]) {
+    if text.len() > SIZE_LIMIT || put_said(out, text).is_err() {
+        out.lose();
     }
-    match said_of(rt.alloc(), text) {
-        Ok(said) => println!(rt; "{said}"),
-        Err(_) => Err(ErrorKind::OutOfMemory.into()),
-    }
+    out.put("\n");
 }
 
-// Writes the text's last part, and what is written of the text.
-fn run<R: AllocGlobal + Print>(rt: &R, begin: &str, end: &str) -> io::Result<()> {
-    println!(rt; "{end}")?;
-    let text = format!(in rt.alloc(); "{begin}{end}")?;
-    show(rt, text.as_bytes())
-}
-
-// Runs the texts of a file.
-fn run_file<R: AllocGlobal + Files + Print>(rt: &R, name: &str) -> io::Result<()> {
-    println!(rt; "% {name}")?;
-    let all = fs::read_to_string(rt, &format!(in rt.alloc(); "explained/{name}")?)?;
+/// Tells the last part of each text of a file, and what is written of the text.
+pub fn explain_texts(out: &mut Spelling, name: &str, all: &str) {
+    out.put_all(&["% ", name, "\n"]);
     let mut parts = all.trim_end().split(DIVIDER);
     let begin = parts.next().unwrap_or("");
     for end in parts {
-        run(rt, begin, end)?;
+        out.put_all(&[end, "\n"]);
+        let mut text = Spelling::new(out.alloc());
+        text.put_all(&[begin, end]);
+        explain(out, text.text().as_bytes());
     }
-    Ok(())
 }
 
-/// Explains the texts of all files, and those that are not UTF-8.
-pub fn explain_all<R: AllocGlobal + Files + Print>(rt: &R) -> io::Result<()> {
-    for name in &FILES {
-        run_file(rt, name)?;
-    }
+/// Tells what is written of texts that are not UTF-8.
+pub fn explain_bytes(out: &mut Spelling) {
     for text in &BYTES {
-        show(rt, text)?;
+        explain(out, text);
     }
-    Ok(())
 }

@@ -1,15 +1,13 @@
 //! Calls whose reads and writes fail. The file `failing` has parts: a command line, a line of rows, and a text. A row
 //! has the numbers of the read and of the write that fail, from 1 on, 0 for none, and the most bytes that a write takes.
 
-use crate::call::{call_into, words_in};
-use crate::cases::DIVIDER;
+use crate::call::{Answer, called, words_in};
+use crate::spelling::Spelling;
+use ap_defs::memory::Memory;
 use ap_io::MemSink;
 use std::alloc::{AllocError, Global};
-use std::fs::Files;
-use std::io::{ErrorKind, Write};
 use std::sync::Wait;
 use std::thread::Threads;
-use std::{fs, io};
 
 /// The bytes that a sink has room for.
 const ROOM: usize = 4096;
@@ -29,57 +27,59 @@ fn numbers(alloc: Global, number: u32) -> Result<Vec<u64>, AllocError> {
 }
 
 /// An empty sink whose writes take so many bytes, at least one, and of which one fails.
-fn sink_of(alloc: Global, write: u32, most: u32) -> io::Result<MemSink> {
+fn sink_of(alloc: Global, write: u32, most: u32) -> Result<MemSink, Memory> {
     let most = if most == 0 { 1 } else { most };
-    match MemSink::new(alloc, most as usize, ROOM, numbers(alloc, write)?) {
-        Ok(sink) => Ok(sink),
-        Err(_memory) => Err(ErrorKind::OutOfMemory.into()),
-    }
+    MemSink::new(alloc, most as usize, ROOM, numbers(alloc, write)?)
 }
 
-/// Writes a row, and what the top call writes where its read and its write fail, with the status.
-fn run_row<R: Threads + Wait + Sync + AllocGlobal + Print>(
+/// What the top call answers where its read and its write fail that a row tells of.
+fn answer_by_row<R: Threads + Wait + Sync>(
     rt: &R,
+    alloc: Global,
     words: &[String],
     text: &str,
     row: &str,
-) -> io::Result<()> {
+) -> Result<Answer, Memory> {
     let (read, rest) = row.split_once(' ').unwrap_or(("0", row));
     let (write, most) = rest.split_once(' ').unwrap_or(("0", rest));
-    let fails = numbers(rt.alloc(), number_of(read))?;
-    let mut sink = sink_of(rt.alloc(), number_of(write), number_of(most))?;
-    let status = call_into(rt, words, text.as_bytes(), fails, &mut sink)?;
-    println!(rt; "{row}")?;
-    io::writer(rt).write_all(sink.bytes())?;
-    println!(rt; "% status {status}")
+    let fails = numbers(alloc, number_of(read))?;
+    let sink = sink_of(alloc, number_of(write), number_of(most))?;
+    called(rt, alloc, words, text.as_bytes(), fails, sink)
+}
+
+/// Tells a row, and what the top call writes where its read and its write fail, with the status.
+fn run_row<R: Threads + Wait + Sync>(
+    rt: &R,
+    out: &mut Spelling,
+    words: &[String],
+    text: &str,
+    row: &str,
+) {
+    out.put_all(&[row, "\n"]);
+    match answer_by_row(rt, out.alloc(), words, text, row) {
+        Ok(answer) => answer.tell(out),
+        Err(Memory) => out.lose(),
+    }
 }
 
 /// Runs a text by the words of a line, once for each row.
-fn run_part<R: Threads + Wait + Sync + AllocGlobal + Print>(
+fn run_rows<R: Threads + Wait + Sync>(
     rt: &R,
-    line: &str,
+    out: &mut Spelling,
+    words: &[String],
     rows: &str,
     text: &str,
-) -> io::Result<()> {
-    let words = words_in(rt.alloc(), line)?;
+) {
     for row in rows.split(", ") {
-        run_row(rt, &words, text, row)?;
+        run_row(rt, out, words, text, row);
     }
-    Ok(())
 }
 
-/// Runs the parts of the file.
-pub fn run_failing<R: Threads + Wait + Sync + AllocGlobal + Files + Print>(
-    rt: &R,
-) -> io::Result<()> {
-    println!(rt; "% failing")?;
-    let all = fs::read_to_string(rt, "failing")?;
-    for part in all.trim_end().split(DIVIDER) {
-        if let Some((line, rest)) = part.split_once('\n') {
-            if let Some((rows, text)) = rest.split_once('\n') {
-                run_part(rt, line, rows, text)?;
-            }
-        }
+/// Runs a part of the file: what stands behind its first line are a line of rows and a text.
+pub fn run_failing<R: Threads + Wait + Sync>(rt: &R, out: &mut Spelling, line: &str, rest: &str) {
+    let (rows, text) = rest.split_once('\n').unwrap_or((rest, ""));
+    match words_in(out.alloc(), line) {
+        Ok(words) => run_rows(rt, out, &words, rows, text),
+        Err(_) => out.lose(),
     }
-    Ok(())
 }

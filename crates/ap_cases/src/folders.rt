@@ -5,12 +5,13 @@
 
 use crate::call::tell_by;
 use crate::derivations::{tally_of, tell};
+use crate::files::text_of;
 use crate::proving::tell_proved;
+use crate::spelling::Spelling;
 use crate::streams::run_text;
 use std::fs::Files;
 use std::sync::Wait;
 use std::thread::Threads;
-use std::{fs, io};
 
 /// What is done with the texts of a folder.
 #[derive(Clone, Copy)]
@@ -33,70 +34,60 @@ impl Task {
     }
 }
 
-/// Examines a text, behind its name and the depth.
-fn examine<R: Threads + Wait + Sync + AllocGlobal + Files + Print>(
-    rt: &R,
-    depth: &str,
-    path: &str,
-) -> io::Result<()> {
-    println!(rt; "% {path}, depth {depth}")?;
-    let text = fs::read(rt, path)?;
-    tell_by(rt, "examine", depth, &text, &["4"])
+/// A text of a folder: the depth, its name and itself.
+#[derive(Clone, Copy)]
+struct Named<'t> {
+    depth: &'t str,
+    folder: &'t str,
+    name: &'t str,
+    text: &'t str,
 }
 
-/// Counts the answers of a text, and their derivations.
-fn prove<R: Threads + Wait + Sync + AllocGlobal + Files + Print>(
-    rt: &R,
-    depth: &str,
-    name: &str,
-    path: &str,
-) -> io::Result<()> {
-    let text = fs::read_to_string(rt, path)?;
-    let tally = tally_of(rt, depth, &text)?;
-    tell(rt, name, tally)
-}
-
-/// Writes what `check` writes of what `prove` writes of a text, behind its name and the depth.
-fn check<R: Threads + Wait + Sync + AllocGlobal + Files + Print>(
-    rt: &R,
-    depth: &str,
-    name: &str,
-    path: &str,
-) -> io::Result<()> {
-    println!(rt; "% {name}, depth {depth}")?;
-    let text = fs::read(rt, path)?;
-    tell_proved(rt, depth, &text)
-}
-
-/// Does a task on a text of a folder.
-fn go_through<R: Threads + Wait + Sync + AllocGlobal + Files + Print>(
-    rt: &R,
-    task: Task,
-    depth: &str,
-    name: &str,
-    path: &str,
-) -> io::Result<()> {
+/// Does a task on a text that is read at once.
+fn work_on<R: Threads + Wait + Sync>(rt: &R, out: &mut Spelling, task: Task, one: Named<'_>) {
+    let bytes = one.text.as_bytes();
     match task {
-        Task::Run => run_text(rt, depth, path),
-        Task::Examine => examine(rt, depth, path),
-        Task::Prove => prove(rt, depth, name, path),
-        Task::Check => check(rt, depth, name, path),
+        Task::Run => {}
+        Task::Examine => {
+            out.put_all(&["% ", one.folder, "/", one.name, ", depth ", one.depth, "\n"]);
+            tell_by(rt, out, "examine", one.depth, bytes, &["4"]);
+        }
+        Task::Prove => {
+            let tally = tally_of(rt, out, one.depth, one.text);
+            tell(out, one.name, tally);
+        }
+        Task::Check => {
+            out.put_all(&["% ", one.name, ", depth ", one.depth, "\n"]);
+            tell_proved(rt, out, one.depth, bytes);
+        }
     }
 }
 
 /// Does a task on the texts of a folder.
 pub fn go_through_folder<R: Threads + Wait + Sync + AllocGlobal + Files + Print>(
     rt: &R,
+    out: &mut Spelling,
     task: Task,
     folder: &str,
-) -> io::Result<()> {
-    let alloc = rt.alloc();
-    let texts = fs::read_to_string(rt, &format!(in alloc; "{folder}/{}", task.file())?)?;
-    for line in texts.lines() {
+) {
+    for line in text_of(rt, out, folder, task.file()).lines() {
         if let Some((depth, name)) = line.split_once(' ') {
-            let path = format!(in alloc; "{folder}/{name}")?;
-            go_through(rt, task, depth, name, &path)?;
+            if let Task::Run = task {
+                run_text(rt, out, depth, folder, name);
+            } else {
+                let text = &text_of(rt, out, folder, name);
+                work_on(
+                    rt,
+                    out,
+                    task,
+                    Named {
+                        depth,
+                        folder,
+                        name,
+                        text,
+                    },
+                );
+            }
         }
     }
-    Ok(())
 }

@@ -5,50 +5,44 @@
 //! command line. A line behind them that begins with `* ` stands for so many lines, without that beginning: in each, `@` is
 //! its number, from 0, and `$` the next.
 
-use crate::call::{call, words_in};
-use crate::cases::DIVIDER;
-use std::alloc::{AllocError, Global};
-use std::fs::Files;
+use crate::call::{answer_line, put_status};
+use crate::spelling::Spelling;
+use std::alloc::Global;
 use std::sync::Wait;
 use std::thread::Threads;
-use std::{fs, io};
 
 /// The numbers of workers that are asked for, as they stand behind a command line.
 const WORKERS: [&str; 2] = [" --workers 1", " --workers 4"];
 
-/// A line with its numbers put in.
-fn push_numbered(text: &mut String, line: &str, this: &str, next: &str) -> Result<(), AllocError> {
+/// Adds a line with its number and the next put in.
+fn put_numbered(text: &mut Spelling, line: &str, number: u32) {
     for part in line.chars() {
         match part {
-            '@' => text.push_str(this)?,
-            '$' => text.push_str(next)?,
-            _ => text.push(part)?,
+            '@' => text.put_number(number as u64, ""),
+            '$' => text.put_number(number as u64 + 1, ""),
+            _ => text.put_char(part),
         }
     }
-    text.push('\n')
+    text.put("\n");
 }
 
-/// The line so often, each with its number.
-fn push_often(alloc: Global, text: &mut String, line: &str, count: u32) -> Result<(), AllocError> {
-    let mut this = 0.to_string(alloc)?;
+/// Adds the line so often, each with its number.
+fn put_often(text: &mut Spelling, line: &str, count: u32) {
     for number in 0..count {
-        let next = (number as u64 + 1).to_string(alloc)?;
-        push_numbered(text, line, &this, &next)?;
-        this = next;
+        put_numbered(text, line, number);
     }
-    Ok(())
 }
 
 /// The text of a template, in which some lines stand so often.
-fn text_of(alloc: Global, count: u32, template: &str) -> Result<String, AllocError> {
-    let mut text = String::new(alloc);
+fn text_of(alloc: Global, count: u32, template: &str) -> Spelling {
+    let mut text = Spelling::new(alloc);
     for line in template.lines() {
         match line.strip_prefix("* ") {
-            Some(part) => push_often(alloc, &mut text, part, count)?,
-            None => push_numbered(&mut text, line, "@", "$")?,
+            Some(part) => put_often(&mut text, part, count),
+            None => text.put_all(&[line, "\n"]),
         }
     }
-    Ok(text)
+    text
 }
 
 /// The last line of a report.
@@ -57,48 +51,24 @@ fn last_line(report: &[u8]) -> &str {
     all.lines().next_back().unwrap_or("")
 }
 
-// Writes how many bytes the report has, its last line, and the status.
-fn run_by<R: Threads + Wait + Sync + AllocGlobal + Print>(
-    rt: &R,
-    line: &str,
-    text: &str,
-) -> io::Result<()> {
-    let words = words_in(rt.alloc(), line)?;
-    let (status, sink) = call(rt, &words, text.as_bytes(), Vec::new(rt.alloc()))?;
-    println!(rt;
-        "{line}: {} bytes, {}",
-        sink.bytes().len(),
-        last_line(sink.bytes())
-    )?;
-    println!(rt; "% status {status}")
+// Tells how many bytes the report has, its last line, and the status.
+fn run_by<R: Threads + Wait + Sync>(rt: &R, out: &mut Spelling, line: &str, text: &str) {
+    let answer = answer_line(rt, out, line, text.as_bytes());
+    out.put_all(&[line, ": "]);
+    out.put_number(answer.bytes.len() as u64, " bytes, ");
+    out.put_all(&[last_line(&answer.bytes), "\n"]);
+    put_status(out, answer.status);
 }
 
-// Runs the text of a template by each number of workers.
-fn run_template<R: Threads + Wait + Sync + AllocGlobal + Print>(
-    rt: &R,
-    line: &str,
-    template: &str,
-) -> io::Result<()> {
-    let alloc = rt.alloc();
+/// Runs the text of a template, behind its title, by each number of workers.
+pub fn run_large<R: Threads + Wait + Sync>(rt: &R, out: &mut Spelling, title: &str, rest: &str) {
+    out.put_all(&[title, "\n"]);
+    let (line, template) = rest.split_once('\n').unwrap_or((rest, ""));
     let (count, words) = line.split_once(' ').unwrap_or(("0", line));
-    let text = text_of(alloc, count.parse::<u32>().unwrap_or(0), template)?;
+    let text = text_of(out.alloc(), count.parse::<u32>().unwrap_or(0), template);
     for workers in &WORKERS {
-        run_by(rt, &format!(in alloc; "{words}{workers}")?, &text)?;
+        let mut line = Spelling::new(out.alloc());
+        line.put_all(&[words, *workers]);
+        run_by(rt, out, line.text(), text.text());
     }
-    Ok(())
-}
-
-/// Runs the texts of the templates.
-pub fn run_large<R: Threads + Wait + Sync + AllocGlobal + Files + Print>(rt: &R) -> io::Result<()> {
-    println!(rt; "% large")?;
-    let all = fs::read_to_string(rt, "large")?;
-    for part in all.trim_end().split(DIVIDER) {
-        if let Some((title, rest)) = part.split_once('\n') {
-            if let Some((line, template)) = rest.split_once('\n') {
-                println!(rt; "{title}")?;
-                run_template(rt, line, template)?;
-            }
-        }
-    }
-    Ok(())
 }

@@ -16,28 +16,45 @@ mod steal;
 mod turns;
 mod types;
 
-use derivations::Stage;
-use std::io;
+use crate::spelling::Spelling;
+use ap_defs::memory::Memory;
+use derivations::{Stage, measured_derivation};
+use std::alloc::Global;
 use std::sync::Wait;
 use std::thread::Threads;
 
-/// What is measured.
-pub fn measured<R: Threads + Wait + Sync + AllocGlobal>(rt: &R, word: &str) -> io::Result<String> {
-    let alloc = rt.alloc();
-    let line = match word {
-        "book" => book::report(alloc),
-        "lock" => turns::report(rt, alloc),
-        "tasks" => deques::report(alloc),
-        "types" => types::report(alloc),
-        "steal1" => steal::report(rt, alloc, 1),
-        "steal2" => steal::report(rt, alloc, 2),
-        "steal4" => steal::report(rt, alloc, 4),
-        "recursion" => steal::report_recursion(alloc),
-        "derived" => derivations::report(alloc, Stage::Derived),
-        "written" => derivations::report(alloc, Stage::Written),
-        "read" => derivations::report(alloc, Stage::Read),
-        "verified" => derivations::report(alloc, Stage::Verified),
-        _ => "nothing is measured so".to_string(alloc),
-    };
-    Ok(line?)
+/// How many of what are counted, by a word.
+fn counted<R: Threads + Wait + Sync>(
+    rt: &R,
+    alloc: Global,
+    word: &str,
+) -> (Result<usize, Memory>, &'static str) {
+    match word {
+        "book" => (book::merged(alloc), " outputs"),
+        "lock" => (turns::taken(rt, alloc), " turns"),
+        "tasks" => (deques::made(alloc), " deques"),
+        "types" => (types::solved(alloc), " shapes"),
+        "steal1" => (steal::searched(rt, alloc, 1), " leaves"),
+        "steal2" => (steal::searched(rt, alloc, 2), " leaves"),
+        "steal4" => (steal::searched(rt, alloc, 4), " leaves"),
+        "recursion" => (steal::gathered(alloc), " leaves"),
+        "derived" => (measured_derivation(alloc, Stage::Derived), " derived"),
+        "written" => (measured_derivation(alloc, Stage::Written), " bytes"),
+        "read" => (measured_derivation(alloc, Stage::Read), " read"),
+        "verified" => (measured_derivation(alloc, Stage::Verified), " verified"),
+        _ => (Err(Memory), ""),
+    }
+}
+
+/// Tells what is measured.
+pub fn measure<R: Threads + Wait + Sync>(rt: &R, out: &mut Spelling, word: &str) {
+    let (count, what) = counted(rt, out.alloc(), word);
+    match count {
+        Ok(count) => {
+            out.put_number(count as u64, what);
+            out.put("\n");
+        }
+        Err(Memory) if what.is_empty() => out.put("nothing is measured so\n"),
+        Err(Memory) => out.lose(),
+    }
 }

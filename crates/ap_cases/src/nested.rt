@@ -1,18 +1,19 @@
-//! Texts that are nested so deeply that they are told of.
+//! Texts that are nested so deeply, or that have so many parts, that they are told of.
 
 use crate::reading::{items_of, tokens_of};
+use crate::spelling::Spelling;
 use ap_syntax::SynError;
-use std::alloc::{AllocError, Global};
+use std::alloc::Global;
 
 /// A text: what it begins with, an opening so often, what is in the middle, a closing as often, and its end.
 #[derive(Clone, Copy)]
-struct Nest<'a> {
-    count: u32,
-    before: &'a str,
-    opening: &'a str,
-    middle: &'a str,
-    closing: &'a str,
-    behind: &'a str,
+pub struct Nest<'a> {
+    pub count: u32,
+    pub before: &'a str,
+    pub opening: &'a str,
+    pub middle: &'a str,
+    pub closing: &'a str,
+    pub behind: &'a str,
 }
 
 /// The text that a line tells of: the count and the five parts have a `~` between each two.
@@ -28,26 +29,28 @@ fn nest_of(line: &str) -> Nest<'_> {
     }
 }
 
-/// So often a text, and then another.
-fn push_often(out: &mut String, count: u32, text: &str, end: &str) -> Result<(), AllocError> {
+/// Adds a text so often, and then another.
+fn put_often(out: &mut Spelling, count: u32, text: &str, end: &str) {
     for _ in 0..count {
-        out.push_str(text)?;
+        out.put(text);
     }
-    out.push_str(end)?;
+    out.put(end);
+}
+
+/// The text that is told of.
+pub fn nested_text(alloc: Global, nest: &Nest<'_>) -> Spelling {
+    let mut out = Spelling::new(alloc);
+    out.put(nest.before);
+    put_often(&mut out, nest.count, nest.opening, nest.middle);
+    put_often(&mut out, nest.count, nest.closing, nest.behind);
+    out
+}
+
+/// Tells that the text is read that a line tells of.
+pub fn put_nest(out: &mut Spelling, line: &str) -> Result<(), SynError> {
+    let text = nested_text(out.alloc(), &nest_of(line));
+    let tokens = tokens_of(out.alloc(), text.text().as_bytes())?;
+    let _items = items_of(out.alloc(), &tokens)?;
+    out.put("read");
     Ok(())
-}
-
-fn text_of(alloc: Global, nest: &Nest<'_>) -> Result<String, AllocError> {
-    let mut out = nest.before.to_string(alloc)?;
-    push_often(&mut out, nest.count, nest.opening, nest.middle)?;
-    push_often(&mut out, nest.count, nest.closing, nest.behind)?;
-    Ok(out)
-}
-
-/// That the text is read that a line tells of.
-pub fn nest_shown(alloc: Global, line: &str) -> Result<String, SynError> {
-    let text = text_of(alloc, &nest_of(line))?;
-    let tokens = tokens_of(alloc, text.as_bytes())?;
-    let _items = items_of(alloc, &tokens)?;
-    Ok("read".to_string(alloc)?)
 }

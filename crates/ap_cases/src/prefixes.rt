@@ -1,52 +1,57 @@
 //! The proper prefixes of bundles. `check` and `convert` must refuse each as unended, at the line at which it ends.
 
-use crate::call::answer;
-use std::fs::Files;
+use crate::call::answer_by;
+use crate::spelling::Spelling;
 use std::sync::Wait;
 use std::thread::Threads;
-use std::{fs, io};
 
 /// Whether a command refuses bytes as unended, at this line.
-fn is_unended<R: Threads + Wait + Sync + AllocGlobal>(
+fn is_unended<R: Threads + Wait + Sync>(
     rt: &R,
+    out: &mut Spelling,
     words: &[&str],
     bytes: &[u8],
-    line: usize,
-) -> io::Result<bool> {
-    let (status, sink) = answer(rt, words, bytes)?;
-    let wanted = format!(in rt.alloc(); "% bundle fault: line {line}, kind 4 Unended\n")?;
-    Ok(status == 2 && sink.bytes() == wanted.as_bytes())
+    line: u64,
+) -> bool {
+    let mut wanted = Spelling::new(out.alloc());
+    wanted.put("% bundle fault: line ");
+    wanted.put_number(line, ", kind 4 Unended\n");
+    let refused = answer_by(rt, out, words, bytes);
+    refused.status == 2 && refused.bytes.as_slice() == wanted.text().as_bytes()
 }
 
 /// How many proper prefixes a command refuses so.
-fn count_unended<R: Threads + Wait + Sync + AllocGlobal>(
+fn count_unended<R: Threads + Wait + Sync>(
     rt: &R,
+    out: &mut Spelling,
     words: &[&str],
     bytes: &[u8],
-) -> io::Result<usize> {
-    let mut count: usize = 0;
-    let mut line: usize = 1;
+) -> u64 {
+    let mut count: u64 = 0;
+    let mut line: u64 = 1;
     for length in 0..bytes.len() {
-        if is_unended(rt, words, &bytes[..length], line)? {
+        if is_unended(rt, out, words, &bytes[..length], line) {
             count = count.saturating_add(1);
         }
         if bytes[length] == b'\n' {
             line = line.saturating_add(1);
         }
     }
-    Ok(count)
+    count
 }
 
-/// Writes how many of the proper prefixes of a bundle of the folder `bundles` are refused so.
-pub fn tell_prefixes<R: Threads + Wait + Sync + AllocGlobal + Files + Print>(
+/// Tells how many of the proper prefixes of a bundle are refused so.
+pub fn tell_prefixes<R: Threads + Wait + Sync>(
     rt: &R,
+    out: &mut Spelling,
     name: &str,
-) -> io::Result<()> {
-    let bytes = fs::read(rt, &format!(in rt.alloc(); "bundles/{name}")?)?;
-    let checked = count_unended(rt, &["check"], &bytes)?;
-    let converted = count_unended(rt, &["convert", "--to", "2"], &bytes)?;
-    println!(rt;
-        "{name}: of {} proper prefixes {checked} are refused by check and {converted} by convert",
-        bytes.len()
-    )
+    bundle: &str,
+) {
+    let bytes = bundle.as_bytes();
+    out.put_all(&[name, ": of "]);
+    out.put_number(bytes.len() as u64, " proper prefixes ");
+    let checked = count_unended(rt, out, &["check"], bytes);
+    out.put_number(checked, " are refused by check and ");
+    let converted = count_unended(rt, out, &["convert", "--to", "2"], bytes);
+    out.put_number(converted, " by convert\n");
 }

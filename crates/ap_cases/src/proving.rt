@@ -1,7 +1,7 @@
 //! What `prove`, `check` and `convert` write.
 
-use crate::call::answer;
-use std::io::{self, Write};
+use crate::call::answer_by;
+use crate::spelling::Spelling;
 use std::sync::Wait;
 use std::thread::Threads;
 
@@ -12,94 +12,106 @@ pub struct Written {
     pub shared: Vec<u8>,
 }
 
-/// Whether a command writes these bytes for an input.
-pub fn is_written<R: Threads + Wait + Sync + AllocGlobal>(
+/// The words of a call, its input, and what it is to write.
+pub type Wanted<'w> = (&'w [&'w str], &'w [u8], &'w [u8]);
+
+/// Whether calls write what they are to.
+pub fn are_written<R: Threads + Wait + Sync>(
     rt: &R,
+    out: &mut Spelling,
+    calls: &[Wanted<'_>],
+) -> bool {
+    for (words, input, bytes) in calls {
+        if answer_by(rt, out, words, input).bytes.as_slice() != *bytes {
+            return false;
+        }
+    }
+    true
+}
+
+/// Whether a call writes these bytes for an input.
+fn is_written<R: Threads + Wait + Sync>(
+    rt: &R,
+    out: &mut Spelling,
     words: &[&str],
     input: &[u8],
     bytes: &[u8],
-) -> io::Result<bool> {
-    let (_, sink) = answer(rt, words, input)?;
-    Ok(sink.bytes() == bytes)
+) -> bool {
+    answer_by(rt, out, words, input).bytes.as_slice() == bytes
 }
 
 /// Whether `prove` writes these bytes for a text, by one worker and by several.
-fn is_bundle_of<R: Threads + Wait + Sync + AllocGlobal>(
+fn is_bundle_of<R: Threads + Wait + Sync>(
     rt: &R,
+    out: &mut Spelling,
     text: &[u8],
     depth: &str,
     bytes: &[u8],
-) -> io::Result<bool> {
+) -> bool {
     let alone = ["prove", "--depth", depth, "--workers", "1"];
     let many = ["prove", "--depth", depth, "--workers", "8"];
-    Ok(is_written(rt, &alone, text, bytes)? && is_written(rt, &many, text, bytes)?)
+    is_written(rt, out, &alone, text, bytes) && is_written(rt, out, &many, text, bytes)
 }
 
-/// Whether `check` writes for both versions that so many derivations check.
-fn are_checked<R: Threads + Wait + Sync + AllocGlobal>(
+/// Whether `check` writes for both versions of a bundle that so many derivations check.
+fn are_checked<R: Threads + Wait + Sync>(
     rt: &R,
+    out: &mut Spelling,
     written: &Written,
     count: usize,
-) -> io::Result<bool> {
-    let line = format!(in rt.alloc(); "% {count} derivations checked\n")?;
-    let wanted = line.as_bytes();
-    let full = is_written(rt, &["check"], &written.full, wanted)?;
-    Ok(full && is_written(rt, &["check"], &written.shared, wanted)?)
+) -> bool {
+    let mut line = Spelling::new(out.alloc());
+    line.put("% ");
+    line.put_number(count as u64, " derivations checked\n");
+    let wanted = line.text().as_bytes();
+    is_written(rt, out, &["check"], &written.full, wanted)
+        && is_written(rt, out, &["check"], &written.shared, wanted)
 }
 
 /// Whether `convert` makes each of two versions of a bundle of these bytes.
-fn is_converted<R: Threads + Wait + Sync + AllocGlobal>(
+fn is_converted<R: Threads + Wait + Sync>(
     rt: &R,
+    out: &mut Spelling,
     input: &[u8],
     written: &Written,
-) -> io::Result<bool> {
-    let full = is_written(rt, &["convert", "--to", "1"], input, &written.full)?;
-    Ok(full && is_written(rt, &["convert", "--to", "2"], input, &written.shared)?)
+) -> bool {
+    is_written(rt, out, &["convert", "--to", "1"], input, &written.full)
+        && is_written(rt, out, &["convert", "--to", "2"], input, &written.shared)
 }
 
 /// Whether `prove` writes the second version for a text, `check` for both versions that so many derivations check,
 /// and `convert` each version for each.
-pub fn are_proved<R: Threads + Wait + Sync + AllocGlobal>(
+pub fn are_proved<R: Threads + Wait + Sync>(
     rt: &R,
+    out: &mut Spelling,
     text: &[u8],
     depth: &str,
     written: &Written,
     count: usize,
-) -> io::Result<bool> {
-    Ok(
-        is_bundle_of(rt, text, depth, &written.shared)?
-            && are_checked(rt, written, count)?
-            && is_converted(rt, &written.full, written)?
-            && is_converted(rt, &written.shared, written)?,
-    )
+) -> bool {
+    is_bundle_of(rt, out, text, depth, &written.shared)
+        && are_checked(rt, out, written, count)
+        && is_converted(rt, out, &written.full, written)
+        && is_converted(rt, out, &written.shared, written)
 }
 
 /// Whether `check` writes the same for both versions of a bundle, with the same status.
-pub fn are_checked_alike<R: Threads + Wait + Sync + AllocGlobal>(
+pub fn are_checked_alike<R: Threads + Wait + Sync>(
     rt: &R,
+    out: &mut Spelling,
     written: &Written,
-) -> io::Result<bool> {
-    let (status, sink) = answer(rt, &["check"], &written.full)?;
-    let (other, others) = answer(rt, &["check"], &written.shared)?;
-    Ok(status == other && sink.bytes() == others.bytes())
+) -> bool {
+    let full = answer_by(rt, out, &["check"], &written.full);
+    answer_by(rt, out, &["check"], &written.shared).is_same(&full)
 }
 
-/// Writes what `check` writes for bytes, and its status.
-pub fn tell_check<R: Threads + Wait + Sync + AllocGlobal + Print>(
-    rt: &R,
-    bytes: &[u8],
-) -> io::Result<()> {
-    let (status, sink) = answer(rt, &["check"], bytes)?;
-    io::writer(rt).write_all(sink.bytes())?;
-    println!(rt; "% status {status}")
+/// Tells what `check` writes for bytes, and its status.
+pub fn tell_check<R: Threads + Wait + Sync>(rt: &R, out: &mut Spelling, bytes: &[u8]) {
+    answer_by(rt, out, &["check"], bytes).tell(out);
 }
 
-/// Writes what `check` writes of what `prove` writes of a text to a depth, and its status.
-pub fn tell_proved<R: Threads + Wait + Sync + AllocGlobal + Print>(
-    rt: &R,
-    depth: &str,
-    text: &[u8],
-) -> io::Result<()> {
-    let (_, sink) = answer(rt, &["prove", "--depth", depth], text)?;
-    tell_check(rt, sink.bytes())
+/// Tells what `check` writes of what `prove` writes of a text to a depth, and its status.
+pub fn tell_proved<R: Threads + Wait + Sync>(rt: &R, out: &mut Spelling, depth: &str, text: &[u8]) {
+    let proved = answer_by(rt, out, &["prove", "--depth", depth], text);
+    tell_check(rt, out, &proved.bytes);
 }

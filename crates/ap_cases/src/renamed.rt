@@ -1,7 +1,7 @@
 //! Ground proofs with their names exchanged for others.
 
-use std::alloc::{AllocError, Global};
-use std::io;
+use crate::spelling::Spelling;
+use std::alloc::Global;
 
 /// The names with lower numbers stay: they may be a query's own, of which none has so many identifiers.
 const FIRST: u64 = 64;
@@ -35,58 +35,51 @@ fn names(word: &str) -> bool {
     word == "n" || word == "l" || word == "m" || word == "new"
 }
 
-/// Adds a word to a line.
-fn add_word(line: &mut String, word: &str) -> Result<(), AllocError> {
-    if !line.is_empty() {
-        line.push_str(" ")?;
-    }
-    line.push_str(word)?;
-    Ok(())
-}
-
-/// A line of a derivation in full, with its names exchanged.
-fn renamed_line(alloc: Global, line: &str, exchange: Exchange) -> Result<String, AllocError> {
-    let mut made = String::new(alloc);
+/// Adds a line of a derivation in full, with its names exchanged.
+fn put_renamed(made: &mut Spelling, line: &str, exchange: Exchange) {
     let mut left: u32 = 0;
+    let mut is_first = true;
     for word in line.split(' ') {
+        if !is_first {
+            made.put(" ");
+        }
         if left == 1 {
-            let num = exchange.of(word.parse::<u64>().unwrap_or(0));
-            add_word(&mut made, &format!(in alloc; "{num}")?)?;
+            made.put_number(exchange.of(word.parse::<u64>().unwrap_or(0)), "");
         } else {
-            add_word(&mut made, word)?;
+            made.put(word);
         }
         left = if names(word) {
             2
         } else {
             left.saturating_sub(1)
         };
+        is_first = false;
     }
-    Ok(made)
+    made.put("\n");
 }
 
-/// The lines of derivations in full, with the names of each exchanged in its own way.
-fn renamed_lines(alloc: Global, lines: &str, first: u64) -> Result<String, AllocError> {
-    let mut made = String::new(alloc);
+/// Adds the lines of derivations in full, with the names of each exchanged in its own way.
+fn put_lines(made: &mut Spelling, lines: &str, first: u64) {
     let mut count: u64 = 0;
     for line in lines.lines() {
         if line.starts_with("derivation ") {
             count = count.saturating_add(1);
         }
         let mask = mask_of(count);
-        made.push_str(&renamed_line(alloc, line, Exchange { first, mask })?)?;
-        made.push_str("\n")?;
+        put_renamed(made, line, Exchange { first, mask });
     }
-    Ok(made)
 }
 
-/// The bytes of a bundle of version 1 whose text has so many bytes, with the names of each of its derivations, which
-/// are ground, exchanged for others.
-pub fn renamed(alloc: Global, bundle: &[u8], text: usize) -> io::Result<Vec<u8>> {
-    let head = format!(in alloc; "alphaprolog bundle 1\ntext {text}\n")?;
-    let split = head.len().saturating_add(text).min(bundle.len());
-    let (front, back) = bundle.split_at(split);
-    let lines = std::str::from_utf8(back).unwrap_or("");
-    let mut bytes = front.to_vec(alloc)?;
-    bytes.extend_from_slice(renamed_lines(alloc, lines, FIRST)?.as_bytes())?;
-    Ok(bytes)
+/// A bundle of version 1 whose text has so many bytes, with the names of each of its derivations, which are ground,
+/// exchanged for others.
+pub fn renamed(alloc: Global, bundle: &[u8], text: usize) -> Spelling {
+    let mut made = Spelling::new(alloc);
+    made.put("alphaprolog bundle 1\ntext ");
+    made.put_number(text as u64, "\n");
+    let head = made.text().len();
+    let split = head.saturating_add(text).min(bundle.len());
+    made.put_bytes(bundle.get(head..split).unwrap_or(&[]));
+    let lines = std::str::from_utf8(bundle.get(split..).unwrap_or(&[])).unwrap_or("");
+    put_lines(&mut made, lines, FIRST);
+    made
 }

@@ -1,12 +1,8 @@
 //! A goal is read, written back and dropped.
 
-use crate::reading::{items_of, tokens_of};
-use ap_defs::memory::Memory;
-use ap_lexer::Token;
+use crate::spelling::Spelling;
+use crate::written::part_of;
 use ap_syntax::SynError;
-use ap_trees::{Form, Item};
-use ap_unparse::writing::goal_text;
-use std::alloc::{AllocError, Global};
 
 /// What became of a goal.
 #[derive(Clone, Copy)]
@@ -30,48 +26,17 @@ impl Outcome {
     }
 }
 
-/// The text of a query.
-fn query(alloc: Global, goal: &[u8]) -> Result<Vec<u8>, AllocError> {
-    let mut text = Vec::new(alloc);
-    text.extend_from_slice(b"?- ")?;
-    text.extend_from_slice(goal)?;
-    text.push(b'.')?;
-    Ok(text)
-}
-
-/// What is written of the goal of the one query.
-fn written(alloc: Global, items: &[Item<'_>]) -> Result<Option<Vec<u8>>, Memory> {
-    let [item] = items else {
-        return Ok(None);
-    };
-    match &item.form {
-        Form::Query(goal) => Ok(Some(goal_text(alloc, goal)?)),
-        _ => Ok(None),
-    }
-}
-
-/// What becomes of a goal whose query has these tokens.
-fn outcome_of(alloc: Global, tokens: &[Token<'_>], goal: &[u8]) -> Result<Outcome, SynError> {
-    let items = items_of(alloc, tokens)?;
-    match written(alloc, &items) {
-        Ok(None) => Ok(Outcome::NotRead),
-        Ok(Some(bytes)) if bytes.as_slice() == goal => Ok(Outcome::Same),
-        Ok(Some(_)) => Ok(Outcome::Other),
-        Err(Memory) => Err(SynError::Memory),
-    }
-}
-
-fn outcome_of_query(alloc: Global, text: &[u8], goal: &[u8]) -> Result<Outcome, SynError> {
-    let tokens = tokens_of(alloc, text)?;
-    outcome_of(alloc, &tokens, goal)
-}
-
 /// What becomes of a goal that is read as a query's, and written.
-pub fn round_of(alloc: Global, goal: &[u8]) -> Result<Outcome, AllocError> {
-    let text = query(alloc, goal)?;
-    match outcome_of_query(alloc, &text, goal) {
-        Ok(outcome) => Ok(outcome),
-        Err(SynError::Fault(_)) => Ok(Outcome::NotRead),
-        Err(SynError::Memory) => Err(AllocError),
+pub fn round_of(out: &mut Spelling, goal: &str) -> Outcome {
+    let mut text = Spelling::new(out.alloc());
+    text.put_all(&["?- ", goal, "."]);
+    match part_of(out.alloc(), text.text()) {
+        Ok(Some((_, bytes))) if bytes.as_slice() == goal.as_bytes() => Outcome::Same,
+        Ok(Some(_)) => Outcome::Other,
+        Ok(None) | Err(SynError::Fault(_)) => Outcome::NotRead,
+        Err(SynError::Memory) => {
+            out.lose();
+            Outcome::NotRead
+        }
     }
 }

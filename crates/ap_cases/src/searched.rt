@@ -4,22 +4,17 @@
 ghost use Rattle.ap_backchain.specs.Branches.{IsBranchOf};
 ghost use Rattle.ap_backchain.specs.Problems.{HasQuery};
 
-use crate::cases::DIVIDER;
-use crate::problems::{problem_of, program_of};
+use crate::spelling::Spelling;
 use ap_answers::printing::lines;
 use ap_backchain::branch::Branch;
 use ap_backchain::problem::{Problem, outputs};
 use ap_defs::memory::Memory;
 use ap_defs::paths::{Node, Out, Path};
-use ap_index::index::Index;
 use ap_paths::Limit;
-use ap_program::restricted::Restricted;
 use ap_replay::error::ReplayError;
 use ap_replay::replay::at;
 use ap_values::shown::canonical;
-use std::alloc::{AllocError, Global};
-use std::fs::Files;
-use std::{fs, io};
+use std::alloc::Global;
 
 const PATHS: [&[u32]; 5] = [&[], &[1], &[2], &[3], &[1, 1]];
 
@@ -41,56 +36,20 @@ fn letter(out: &Out) -> (&'static str, &Path) {
 }
 
 /// Adds a letter for an output, and the choices of its path.
-fn spell(word: &mut String, out: &Out) -> Result<(), Memory> {
+fn put_output(word: &mut Spelling, out: &Out) {
     let (letter, path) = letter(out);
-    word.push_str(letter)?;
+    word.put(letter);
     for k in path.choices() {
-        word.push_str(digit(*k))?;
+        word.put(digit(*k));
     }
-    Ok(())
 }
 
-/// The outputs of a problem.
-fn spelled(alloc: Global, problem: &Problem<'_>) -> Result<String, Memory>
+/// Tells the outputs of a problem.
+pub fn put_outputs(out: &mut Spelling, problem: &Problem<'_>) -> Result<(), Memory>
     requires { HasQuery problem.now }
 {
-    let outs = outputs(alloc, problem, Limit::All)?;
-    let mut word = String::new(alloc);
-    for out in &outs {
-        spell(&mut word, out)?;
-    }
-    Ok(word)
-}
-
-/// The outputs of the first query of a program with its index.
-fn first_outputs(alloc: Global, depth: u32, index: &Index<'_>) -> Result<String, Memory> {
-    match problem_of(index, 1, depth) {
-        Some(problem) => spelled(alloc, &problem),
-        None => Err(Memory),
-    }
-}
-
-/// The outputs of the first query of a program.
-fn outputs_in(alloc: Global, depth: u32, program: &Restricted) -> Result<String, Memory> {
-    let index = Index::of(alloc, program)?;
-    first_outputs(alloc, depth, &index)
-}
-
-/// The outputs of a text.
-fn outputs_of(alloc: Global, depth: u32, text: &str) -> Result<String, Memory> {
-    let program = program_of(alloc, text.as_bytes())?;
-    outputs_in(alloc, depth, &program)
-}
-
-/// Writes the texts of the file `outputs` with their depths, and a letter and a path for each output.
-pub fn write_outputs<R: AllocGlobal + Files + Print>(rt: &R) -> io::Result<()> {
-    println!(rt; "% outputs")?;
-    let all = fs::read_to_string(rt, "outputs")?;
-    for part in all.trim_end().split(DIVIDER) {
-        let (depth, text) = part.split_once('\n').unwrap_or(("", ""));
-        let depth = depth.parse::<u32>().unwrap_or(0);
-        let found = outputs_of(rt.alloc(), depth, text).map_err(|_| AllocError)?;
-        println!(rt; "{part}\n{found}")?;
+    for one in &outputs(out.alloc(), problem, Limit::All)? {
+        put_output(out, one);
     }
     Ok(())
 }
@@ -151,54 +110,29 @@ fn word_at<'a>(
     }
 }
 
-/// What the branches of the paths stand at.
-fn words_at<'a>(alloc: Global, problem: &Problem<'a>) -> Result<String, Memory>
+/// Tells the lines of a problem's query.
+fn put_lines(out: &mut Spelling, problem: &Problem<'_>) -> Result<(), Memory>
     requires { HasQuery problem.now }
 {
-    let mut line = String::new(alloc);
-    for choices in &PATHS {
-        line.push_str(word_at(alloc, problem, choices)?)?;
-        line.push_str(". ")?;
-    }
-    Ok(line)
-}
-
-/// The lines of a problem's query.
-fn lines_of<'a>(alloc: Global, problem: &Problem<'a>) -> Result<String, Memory>
-    requires { HasQuery problem.now }
-{
-    let outs = outputs(alloc, problem, Limit::All)?;
-    let bytes = lines(alloc, problem.program.restricted(), problem.query, &outs)?;
-    String::from_utf8(bytes).or(Err(Memory))
-}
-
-/// The branches of the first query of a program with its index, and its lines.
-fn first_branches(alloc: Global, index: &Index<'_>) -> Result<(String, String), Memory> {
-    match problem_of(index, 1, 1) {
-        Some(problem) => Ok((words_at(alloc, &problem)?, lines_of(alloc, &problem)?)),
-        None => Err(Memory),
-    }
-}
-
-/// The branches of the first query of a program, and its lines.
-fn branches_in(alloc: Global, program: &Restricted) -> Result<(String, String), Memory> {
-    let index = Index::of(alloc, program)?;
-    first_branches(alloc, &index)
-}
-
-/// The branches of a text, and its lines.
-fn branches_of(alloc: Global, text: &str) -> Result<(String, String), Memory> {
-    let program = program_of(alloc, text.as_bytes())?;
-    branches_in(alloc, &program)
-}
-
-/// Writes the texts of the file `branches`, what the branch at each of the paths stands at, and the query's lines.
-pub fn write_branches<R: AllocGlobal + Files + Print>(rt: &R) -> io::Result<()> {
-    println!(rt; "% branches at {PATHS:?}")?;
-    let all = fs::read_to_string(rt, "branches")?;
-    for text in all.trim_end().split(DIVIDER) {
-        let (found, lines) = branches_of(rt.alloc(), text).map_err(|_| AllocError)?;
-        print!(rt; "{text}\n{found}\n{lines}")?;
-    }
+    let outs = outputs(out.alloc(), problem, Limit::All)?;
+    let bytes = lines(
+        out.alloc(),
+        problem.program.restricted(),
+        problem.query,
+        &outs,
+    )?;
+    out.put_bytes(&bytes);
     Ok(())
+}
+
+/// Tells what the branches of the paths stand at, and the lines of the problem's query.
+pub fn put_branches(out: &mut Spelling, problem: &Problem<'_>) -> Result<(), Memory>
+    requires { HasQuery problem.now }
+{
+    for choices in &PATHS {
+        let word = word_at(out.alloc(), problem, choices)?;
+        out.put_all(&[word, ". "]);
+    }
+    out.put("\n");
+    put_lines(out, problem)
 }

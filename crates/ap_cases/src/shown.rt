@@ -1,17 +1,16 @@
 //! What is shown of a text.
 
-use crate::nested::nest_shown;
+use crate::nested::put_nest;
 use crate::reading::{items_of, tokens_of};
 use crate::spelling::Spelling;
 use crate::trees::{put_form, put_tree, put_type};
-use crate::typed::typed_shown;
-use crate::written::part_shown;
+use crate::typed::put_typed;
+use crate::written::put_part;
 use ap_defs::faults::SyntaxFault;
 use ap_lexer::{Token, TokenKind};
 use ap_syntax::SynError;
-use ap_trees::{Item, ReadError, Tree, TypeTree};
+use ap_trees::{ReadError, Tree, TypeTree};
 use ap_whole::{symbols_of, whole_term, whole_type};
-use std::alloc::{AllocError, Global};
 
 /// What is shown of a text.
 #[derive(Clone, Copy)]
@@ -47,91 +46,78 @@ fn put_token(out: &mut Spelling, token: &Token<'_>) {
     out.put(" ");
 }
 
-fn tokens_shown(alloc: Global, text: &str) -> Result<String, SynError> {
-    let tokens = tokens_of(alloc, text.as_bytes())?;
-    let mut out = Spelling::new(alloc);
+fn put_tokens(out: &mut Spelling, text: &str) -> Result<(), SynError> {
+    let tokens = tokens_of(out.alloc(), text.as_bytes())?;
     for token in &tokens {
-        put_token(&mut out, token);
+        put_token(out, token);
     }
-    Ok(out.whole()?)
+    Ok(())
 }
 
 /// The items of a text, each as its line and what it says.
-pub fn items_shown(alloc: Global, text: &str) -> Result<String, SynError> {
-    let tokens = tokens_of(alloc, text.as_bytes())?;
-    let items = items_of(alloc, &tokens)?;
-    let mut out = Spelling::new(alloc);
+pub fn put_items(out: &mut Spelling, text: &str) -> Result<(), SynError> {
+    let tokens = tokens_of(out.alloc(), text.as_bytes())?;
+    let items = items_of(out.alloc(), &tokens)?;
     for item in &items {
         out.put_number(item.line, " ");
-        put_form(&mut out, &item.form);
+        put_form(out, &item.form);
         out.put(";");
     }
-    Ok(out.whole()?)
+    Ok(())
 }
 
-fn spelled_tree(alloc: Global, tree: &Tree<'_>) -> Result<String, AllocError> {
-    let mut out = Spelling::new(alloc);
-    put_tree(&mut out, tree);
-    out.whole()
-}
-
-fn tree_shown(alloc: Global, read: Result<Tree<'_>, ReadError>) -> Result<String, AllocError> {
+fn put_read_tree(out: &mut Spelling, read: Result<Tree<'_>, ReadError>) {
     match read {
-        Ok(tree) => spelled_tree(alloc, &tree),
-        Err(ReadError::Grammar) => "none".to_string(alloc),
-        Err(ReadError::Memory) => Err(AllocError),
+        Ok(tree) => put_tree(out, &tree),
+        Err(ReadError::Grammar) => out.put("none"),
+        Err(ReadError::Memory) => out.lose(),
     }
 }
 
-fn spelled_type(alloc: Global, tree: &TypeTree<'_>) -> Result<String, AllocError> {
-    let mut out = Spelling::new(alloc);
-    put_type(&mut out, tree);
-    out.whole()
-}
-
-fn type_tree_shown(
-    alloc: Global,
-    read: Result<TypeTree<'_>, ReadError>,
-) -> Result<String, AllocError> {
+fn put_read_type(out: &mut Spelling, read: Result<TypeTree<'_>, ReadError>) {
     match read {
-        Ok(tree) => spelled_type(alloc, &tree),
-        Err(ReadError::Grammar) => "none".to_string(alloc),
-        Err(ReadError::Memory) => Err(AllocError),
+        Ok(tree) => put_type(out, &tree),
+        Err(ReadError::Grammar) => out.put("none"),
+        Err(ReadError::Memory) => out.lose(),
     }
 }
 
-fn term_shown(alloc: Global, text: &str) -> Result<String, SynError> {
-    let tokens = tokens_of(alloc, text.as_bytes())?;
-    let symbols = symbols_of(alloc, &tokens)?;
-    Ok(tree_shown(alloc, whole_term(alloc, &symbols))?)
+fn put_term(out: &mut Spelling, text: &str) -> Result<(), SynError> {
+    let tokens = tokens_of(out.alloc(), text.as_bytes())?;
+    let symbols = symbols_of(out.alloc(), &tokens)?;
+    put_read_tree(out, whole_term(out.alloc(), &symbols));
+    Ok(())
 }
 
-fn type_shown(alloc: Global, text: &str) -> Result<String, SynError> {
-    let tokens = tokens_of(alloc, text.as_bytes())?;
-    let symbols = symbols_of(alloc, &tokens)?;
-    Ok(type_tree_shown(alloc, whole_type(alloc, &symbols))?)
+fn put_whole_type(out: &mut Spelling, text: &str) -> Result<(), SynError> {
+    let tokens = tokens_of(out.alloc(), text.as_bytes())?;
+    let symbols = symbols_of(out.alloc(), &tokens)?;
+    put_read_type(out, whole_type(out.alloc(), &symbols));
+    Ok(())
 }
 
 /// A fault as its item, its line and its kind.
-fn fault_shown(alloc: Global, fault: SyntaxFault) -> Result<String, AllocError> {
-    let (item, line, kind) = (fault.place.item, fault.place.line, fault.kind.number());
-    format!(in alloc; "fault {item} {line} {kind}")
+fn put_fault(out: &mut Spelling, fault: SyntaxFault) {
+    out.put("fault ");
+    out.put_number(fault.place.item as u64, " ");
+    out.put_number(fault.place.line, " ");
+    out.put_number(fault.kind.number() as u64, "");
 }
 
 /// What is shown of a text, or its fault.
-pub fn shown(alloc: Global, kind: Kind, text: &str) -> Result<String, AllocError> {
+pub fn put_shown(out: &mut Spelling, kind: Kind, text: &str) {
     let read = match kind {
-        Kind::Tokens => tokens_shown(alloc, text),
-        Kind::Items => items_shown(alloc, text),
-        Kind::Term => term_shown(alloc, text),
-        Kind::Type => type_shown(alloc, text),
-        Kind::Part => part_shown(alloc, text),
-        Kind::Nest => nest_shown(alloc, text),
-        Kind::Typed => typed_shown(alloc, text),
+        Kind::Tokens => put_tokens(out, text),
+        Kind::Items => put_items(out, text),
+        Kind::Term => put_term(out, text),
+        Kind::Type => put_whole_type(out, text),
+        Kind::Part => put_part(out, text),
+        Kind::Nest => put_nest(out, text),
+        Kind::Typed => put_typed(out, text),
     };
     match read {
-        Ok(text) => Ok(text),
-        Err(SynError::Fault(fault)) => fault_shown(alloc, fault),
-        Err(SynError::Memory) => Err(AllocError),
+        Ok(()) => {}
+        Err(SynError::Fault(fault)) => put_fault(out, fault),
+        Err(SynError::Memory) => out.lose(),
     }
 }

@@ -1,62 +1,75 @@
 //! Texts and bundles that are read as streams. The file `commands` of a folder has a line for each command line, with what
 //! it reads.
 
-use crate::call::{status_of, words_in, words_of};
+use crate::call::{put_status, status_of, words_in};
+use crate::files::text_of;
+use crate::spelling::Spelling;
 use ap_io::{NoGate, StdSink, StdSource};
 use std::fs::{File, Files};
+use std::io;
 use std::sync::Wait;
 use std::thread::Threads;
-use std::{fs, io};
 
-/// Writes a title, then what the top call writes for words and what a path has, and the status.
-fn run<R: Threads + Wait + Sync + AllocGlobal + Files + Print>(
+/// Writes what the top call writes for words and what a path has, and tells the status.
+fn run<R: Threads + Wait + Sync + Files + Print>(
     rt: &R,
-    title: &str,
+    out: &mut Spelling,
     words: &[String],
     path: &str,
-) -> io::Result<()> {
-    println!(rt; "% {title}")?;
-    let mut source = StdSource::new(File::open(rt, path)?);
-    let mut sink = StdSink::new(io::writer(rt));
-    let status = status_of(rt, rt.alloc(), words, &mut source, &mut sink, &NoGate);
-    println!(rt; "% status {status}")
+) {
+    out.flush(rt);
+    match File::open(rt, path) {
+        Ok(file) => {
+            let mut source = StdSource::new(file);
+            let mut sink = StdSink::new(io::writer(rt));
+            let status = status_of(rt, out.alloc(), words, &mut source, &mut sink, &NoGate);
+            put_status(out, status);
+        }
+        Err(_) => out.lose(),
+    }
 }
 
-/// Runs a text to a depth.
-pub fn run_text<R: Threads + Wait + Sync + AllocGlobal + Files + Print>(
+/// Writes what the top call writes for the words of a line and what a path has.
+fn run_line<R: Threads + Wait + Sync + Files + Print>(
     rt: &R,
-    depth: &str,
-    path: &str,
-) -> io::Result<()> {
-    let words = words_of(rt.alloc(), &["run", "--depth", depth])?;
-    run(rt, path, &words, path)
-}
-
-/// Runs a command on what a path has.
-fn run_command<R: Threads + Wait + Sync + AllocGlobal + Files + Print>(
-    rt: &R,
+    out: &mut Spelling,
     line: &str,
     path: &str,
-) -> io::Result<()> {
-    let words = words_in(rt.alloc(), line)?;
-    run(
-        rt,
-        &format!(in rt.alloc(); "{line} < {path}")?,
-        &words,
-        path,
-    )
+) {
+    match words_in(out.alloc(), line) {
+        Ok(words) => run(rt, out, &words, path),
+        Err(_) => out.lose(),
+    }
+}
+
+/// Runs a text of a folder to a depth.
+pub fn run_text<R: Threads + Wait + Sync + Files + Print>(
+    rt: &R,
+    out: &mut Spelling,
+    depth: &str,
+    folder: &str,
+    name: &str,
+) {
+    out.put_all(&["% ", folder, "/", name, "\n"]);
+    let mut line = Spelling::new(out.alloc());
+    line.put_all(&["run --depth ", depth]);
+    let mut path = Spelling::new(out.alloc());
+    path.put_all(&[folder, "/", name]);
+    run_line(rt, out, line.text(), path.text());
 }
 
 /// Runs the command lines of a folder: what stands behind ` < ` is what the command reads.
 pub fn run_commands<R: Threads + Wait + Sync + AllocGlobal + Files + Print>(
     rt: &R,
+    out: &mut Spelling,
     folder: &str,
-) -> io::Result<()> {
-    let commands = fs::read_to_string(rt, &format!(in rt.alloc(); "{folder}/commands")?)?;
-    for line in commands.lines() {
+) {
+    for line in text_of(rt, out, folder, "commands").lines() {
         if let Some((words, name)) = line.split_once(" < ") {
-            run_command(rt, words, &format!(in rt.alloc(); "{folder}/{name}")?)?;
+            out.put_all(&["% ", words, " < ", folder, "/", name, "\n"]);
+            let mut path = Spelling::new(out.alloc());
+            path.put_all(&[folder, "/", name]);
+            run_line(rt, out, words, path.text());
         }
     }
-    Ok(())
 }

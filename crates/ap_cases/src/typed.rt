@@ -10,7 +10,6 @@ use ap_syntax::SynError;
 use ap_trees::Item;
 use ap_typecheck::TypeError;
 use ap_whole::check;
-use std::alloc::{AllocError, Global};
 
 /// Identifiers with their kinds.
 fn put_locals(out: &mut Spelling, locals: &[Local]) {
@@ -44,33 +43,30 @@ fn put_clauses(out: &mut Spelling, program: &Program<Raw>) {
     }
 }
 
-fn program_shown(alloc: Global, program: &Program<Raw>) -> Result<String, AllocError> {
-    let mut out = Spelling::new(alloc);
-    put_clauses(&mut out, program);
+fn put_program(out: &mut Spelling, program: &Program<Raw>) {
+    put_clauses(out, program);
     for query in program.queries.items() {
-        put_query(&mut out, query);
+        put_query(out, query);
     }
-    out.whole()
 }
 
-/// The program of items that are well typed.
-fn program_of(alloc: Global, items: Vec<Item<'_>>) -> Result<Option<Program<Raw>>, AllocError> {
+/// The clauses and queries of items that are well typed.
+fn put_typed_items(out: &mut Spelling, items: Vec<Item<'_>>) {
     if items.len() > SIZE_LIMIT {
-        return Err(AllocError);
+        out.lose();
+        return;
     }
-    match check(alloc, items) {
-        Ok(program) => Ok(Some(program)),
-        Err(TypeError::Fault(_)) => Ok(None),
-        Err(TypeError::Memory) => Err(AllocError),
+    match check(out.alloc(), items) {
+        Ok(program) => put_program(out, &program),
+        Err(TypeError::Fault(_)) => out.put("ill typed"),
+        Err(TypeError::Memory) => out.lose(),
     }
 }
 
 /// The clauses and queries of a text that is well typed.
-pub fn typed_shown(alloc: Global, text: &str) -> Result<String, SynError> {
-    let tokens = tokens_of(alloc, text.as_bytes())?;
-    let items = items_of(alloc, &tokens)?;
-    match program_of(alloc, items)? {
-        Some(program) => Ok(program_shown(alloc, &program)?),
-        None => Ok("ill typed".to_string(alloc)?),
-    }
+pub fn put_typed(out: &mut Spelling, text: &str) -> Result<(), SynError> {
+    let tokens = tokens_of(out.alloc(), text.as_bytes())?;
+    let items = items_of(out.alloc(), &tokens)?;
+    put_typed_items(out, items);
+    Ok(())
 }

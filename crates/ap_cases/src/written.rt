@@ -1,16 +1,17 @@
 //! Parts of an item that are written, and are read again.
 
 use crate::reading::{items_of, tokens_of};
-use crate::shown::items_shown;
+use crate::shown::put_items;
+use crate::spelling::Spelling;
 use ap_defs::memory::Memory;
 use ap_syntax::SynError;
 use ap_trees::{Form, Item};
 use ap_unparse::writing::{goal_text, term_text, type_text};
-use std::alloc::{AllocError, Global};
+use std::alloc::Global;
 
 /// A part of an item that stands alone in it: a query's goal, a predicate's type or the term of a clause's head.
 #[derive(Clone, Copy)]
-enum Part {
+pub enum Part {
     Goal,
     Type,
     Term,
@@ -35,17 +36,18 @@ fn written(alloc: Global, items: &[Item<'_>]) -> Result<Option<(Part, Vec<u8>)>,
     }
 }
 
-/// The item that has this text as its part.
-fn item_with(alloc: Global, part: Part, text: &str) -> Result<String, AllocError> {
-    match part {
-        Part::Goal => format!(in alloc; "?- {text}."),
-        Part::Type => format!(in alloc; "pred p({text})."),
-        Part::Term => format!(in alloc; "p({text})."),
-    }
+/// Adds the item that has this text as its part.
+fn put_item(out: &mut Spelling, part: Part, text: &str) {
+    let (begin, end) = match part {
+        Part::Goal => ("?- ", "."),
+        Part::Type => ("pred p(", ")."),
+        Part::Term => ("p(", ")."),
+    };
+    out.put_all(&[begin, text, end]);
 }
 
 /// What is written of the part of a text's item.
-fn part_of(alloc: Global, text: &str) -> Result<Option<(Part, Vec<u8>)>, SynError> {
+pub fn part_of(alloc: Global, text: &str) -> Result<Option<(Part, Vec<u8>)>, SynError> {
     let tokens = tokens_of(alloc, text.as_bytes())?;
     let items = items_of(alloc, &tokens)?;
     match written(alloc, &items) {
@@ -56,19 +58,26 @@ fn part_of(alloc: Global, text: &str) -> Result<Option<(Part, Vec<u8>)>, SynErro
 
 /// Whether an item with this part reads as a text does.
 fn reads_same(alloc: Global, text: &str, part: Part, written: &str) -> Result<bool, SynError> {
-    let item = item_with(alloc, part, written)?;
-    Ok(items_shown(alloc, text)? == items_shown(alloc, &item)?)
+    let mut item = Spelling::new(alloc);
+    put_item(&mut item, part, written);
+    let mut first = Spelling::new(alloc);
+    put_items(&mut first, text)?;
+    let mut second = Spelling::new(alloc);
+    put_items(&mut second, item.text())?;
+    Ok(first.text() == second.text())
 }
 
-/// What is written of the part of a text's item, if it is read as the same again.
-pub fn part_shown(alloc: Global, text: &str) -> Result<String, SynError> {
-    let Some((part, bytes)) = part_of(alloc, text)? else {
-        return Ok("no part".to_string(alloc)?);
+/// Tells what is written of the part of a text's item, if it is read as the same again.
+pub fn put_part(out: &mut Spelling, text: &str) -> Result<(), SynError> {
+    let Some((part, bytes)) = part_of(out.alloc(), text)? else {
+        out.put("no part");
+        return Ok(());
     };
-    let written = String::from_utf8(bytes).map_err(|_| SynError::Memory)?;
-    if reads_same(alloc, text, part, &written)? {
-        Ok(written)
+    let written = str::from_utf8(&bytes).unwrap_or("");
+    if reads_same(out.alloc(), text, part, written)? {
+        out.put(written);
     } else {
-        Ok("read otherwise".to_string(alloc)?)
+        out.put("read otherwise");
     }
+    Ok(())
 }

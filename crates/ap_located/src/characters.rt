@@ -267,7 +267,7 @@ fn stray_message(alloc: Global, line: &str, start: usize, stray: Stray) -> Messa
         stray.c,
         line.get(stray.place..end).unwrap_or(""),
     );
-    message.note(stray_note(line, stray), &[]);
+    message.note_text(stray_note(line, stray));
     message
 }
 
@@ -279,7 +279,7 @@ pub fn explain_character(alloc: Global, text: &[u8], line: u64) -> Message {
         return stray_message(alloc, front, whole.start, stray);
     }
     let mut message = Message::new(alloc, whole);
-    message.say("no token begins here", &[]);
+    message.say_text("no token begins here");
     message
 }
 
@@ -292,6 +292,6 @@ pub fn explain_bytes(alloc: Global, text: &[u8]) -> Message {
         "the byte @ begins no character of UTF-8",
         &[Piece::Byte(text.get(start).copied().unwrap_or(0))],
     );
-    message.note("save the text in the encoding UTF-8, comments too", &[]);
+    message.note_text("save the text in the encoding UTF-8, comments too");
     message
 }

@@ -66,8 +66,8 @@ fn missing_end(alloc: Global, tokens: &[Token<'_>], slip: Slip) -> Message {
     let start = span_at(tokens, slip.token.saturating_sub(1)).end;
     let end = start.saturating_add(1);
     let mut message = Message::new(alloc, Span { start, end });
-    message.say("a `.` is missing before the next item", &[]);
-    message.label("the item ends here by a `.`", &[]);
+    message.say_text("a `.` is missing before the next item");
+    message.label_text("the item ends here by a `.`");
     let line = line_at(tokens, slip.token);
     message.note("the next item begins in line @", &[Piece::Number(line)]);
     message
@@ -75,7 +75,7 @@ fn missing_end(alloc: Global, tokens: &[Token<'_>], slip: Slip) -> Message {
 
 fn say_slip(message: &mut Message, tokens: &[Token<'_>], place: usize) {
     if place >= tokens.len() {
-        message.say("the item can't end here", &[]);
+        message.say_text("the item can't end here");
     } else {
         message.say(
             "the item can't go on with `@`",
@@ -107,9 +107,9 @@ fn slip_message(alloc: Global, tokens: &[Token<'_>], nodes: &[Node], slip: Slip)
     let open = node_at(nodes, slip.open);
     let mut message = Message::new(alloc, span_at(tokens, slip.token));
     say_slip(&mut message, tokens, slip.token);
-    message.label(wanted_text(slip.wanted, open.form), &[]);
+    message.label_text(wanted_text(slip.wanted, open.form));
     match habit(tokens, nodes, slip) {
-        Some(note) => message.note(note, &[]),
+        Some(note) => message.note_text(note),
         None if matches!(slip.wanted, Wanted::Close) && has_bracket(open) => {
             note_open(&mut message, tokens, open);
         }
@@ -120,7 +120,7 @@ fn slip_message(alloc: Global, tokens: &[Token<'_>], nodes: &[Node], slip: Slip)
 
 fn vague_message(alloc: Global, tokens: &[Token<'_>]) -> Message {
     let mut message = Message::new(alloc, span_at(tokens, 0));
-    message.say("the item is not in the grammar", &[]);
+    message.say_text("the item is not in the grammar");
     message
 }
 

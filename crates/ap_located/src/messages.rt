@@ -80,8 +80,12 @@ impl Message {
         }
     }
 
-    /// Goes on with the part that was begun last; at first that is the sentence. Each `@` of what is said stands for one of
-    /// the pieces.
+    /// Goes on with the part that was begun last; at first that is the sentence.
+    pub fn say_text(&mut self, text: &str) {
+        self.put(Piece::Text(text));
+    }
+
+    /// The same with pieces: there is one for each `@` of what is said, which has no `@` of its own.
     pub fn say(&mut self, said: &str, pieces: &[Piece<'_>]) {
         let mut pieces = pieces.iter();
         let mut parts = said.split("@");
@@ -93,12 +97,25 @@ impl Message {
     }
 
     /// Begins the label.
+    pub fn label_text(&mut self, text: &str) {
+        self.part = Part::Label;
+        self.say_text(text);
+    }
+
+    /// Begins the label, with pieces.
     pub fn label(&mut self, said: &str, pieces: &[Piece<'_>]) {
         self.part = Part::Label;
         self.say(said, pieces);
     }
 
     /// Begins a note.
+    pub fn note_text(&mut self, text: &str) {
+        self.part = Part::Note;
+        self.put(Piece::Text("\n"));
+        self.say_text(text);
+    }
+
+    /// Begins a note, with pieces.
     pub fn note(&mut self, said: &str, pieces: &[Piece<'_>]) {
         self.part = Part::Note;
         self.put(Piece::Text("\n"));
@@ -184,7 +201,8 @@ fn add_excerpt<'x>(
 fn add_notes(out: &mut String, number: usize, notes: &str) -> Result<(), Memory> {
     let margin = margin_of(number);
     let mut all = notes.split("\n");
-    let _front = all.next();
+    // Each note stands behind a line feed, and nothing before the first.
+    let _nothing = all.next();
     for note in all {
         add_pieces(
             out,

@@ -62,8 +62,8 @@ fn deepest(alloc: Global, tokens: &[Token<'_>]) -> Result<usize, Memory> {
 pub fn explain_depth(alloc: Global, tokens: &[Token<'_>]) -> Result<Message, Memory> {
     let place = deepest(alloc, tokens)?;
     let mut message = Message::new(alloc, span_at(tokens, place));
-    message.say("the item is nested more than 256 deep", &[]);
-    message.label("this opens level 257; `(`, `[` and `\\` count", &[]);
+    message.say_text("the item is nested more than 256 deep");
+    message.label_text("this opens level 257; `(`, `[` and `\\` count");
     note_begin(&mut message, tokens);
     Ok(message)
 }
@@ -93,8 +93,8 @@ pub fn explain_unended(alloc: Global, tokens: &[Token<'_>]) -> Message {
     let start = span_at(tokens, tokens.len().saturating_sub(1)).end;
     let end = start.saturating_add(1);
     let mut message = Message::new(alloc, Span { start, end });
-    message.say("the text ends before the item's `.`", &[]);
-    message.label("a `.` is missing here", &[]);
+    message.say_text("the text ends before the item's `.`");
+    message.label_text("a `.` is missing here");
     note_begin(&mut message, tokens);
     if let Some(place) = last_open(tokens) {
         message.note(

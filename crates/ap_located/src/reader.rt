@@ -180,8 +180,14 @@ impl<'t, 'a> Reader<'t, 'a> {
             Expect::Term => self.take_term(place, token),
             Expect::TermOrClose => self.take_term_or_close(place, token),
             Expect::After => self.take_after(place, token),
-            Expect::Lambda => self.pass(place, Symbol::Lambda, Wanted::Open, Expect::Term),
-            Expect::Colon => self.pass(place, Symbol::Colon, Wanted::Open, Expect::DeclaredType),
+            Expect::Lambda => {
+                self.expect = Expect::Term;
+                Ok(())
+            }
+            Expect::Colon => {
+                self.expect = Expect::DeclaredType;
+                Ok(())
+            }
             Expect::Open => self.pass(place, Symbol::Open, Wanted::Open, Expect::Term),
             Expect::OpenGoals => self.pass(place, Symbol::Open, Wanted::Open, Expect::Goal),
             Expect::NewName => {

@@ -50,7 +50,7 @@ pub(crate) enum Symbol {
     Fresh,
     /// `=`
     Equal,
-    /// There is no token.
+    /// There is no token, or another one.
     No,
 }
 
@@ -76,15 +76,16 @@ fn sign(spelled: &[u8]) -> Symbol {
     }
 }
 
-/// The symbol that a reserved word is. These differ in their first two letters.
+/// The symbol that a reserved word is.
 fn reserved(word: &[u8]) -> Symbol {
     match word {
-        [b'p', ..] => Symbol::Predicate,
-        [b't', ..] => Symbol::Type,
-        [b'e', ..] => Symbol::Exists,
-        [b's', ..] => Symbol::Swap,
-        [b'n', b'e', ..] => Symbol::New,
-        _ => Symbol::NameType,
+        [b'n', b'e', b'w'] => Symbol::New,
+        [b'p', b'r', b'e', b'd'] => Symbol::Predicate,
+        [b's', b'w', b'a', b'p'] => Symbol::Swap,
+        [b't', b'y', b'p', b'e'] => Symbol::Type,
+        [b'e', b'x', b'i', b's', b't', b's'] => Symbol::Exists,
+        [b'n', b'a', b'm', b'e', b'_', b't', b'y', b'p', b'e'] => Symbol::NameType,
+        _ => Symbol::No,
     }
 }
 

@@ -55,6 +55,7 @@ pub(crate) fn single_variables(
 ) -> Result<Vec<usize>, Memory> {
     let mut words = IndexSet::new(alloc);
     let mut variables = Vec::new(alloc);
+    // One way out, so that both are let go there alone.
     match count_words(&mut words, &mut variables, text, marks) {
         Ok(()) => single_tokens(alloc, variables.as_slice()),
         Err(Memory) => Err(Memory),

@@ -48,10 +48,7 @@ fn note_way_out<'a>(message: &mut Message, tokens: &[Token<'a>], variable: &'a s
 fn stuck_message(alloc: Global, tokens: &[Token<'_>], nodes: &[Node], place: usize) -> Message {
     let goal = node_at(nodes, place);
     let mut message = Message::new(alloc, span_between(tokens, goal.first, goal.last));
-    message.say(
-        "a branch is stuck where the left side of this goal is still a variable",
-        &[],
-    );
+    message.say_text("a branch is stuck where the left side of this goal is still a variable");
     let variable = text_at(tokens, goal.first);
     note_way_out(&mut message, tokens, variable, right_part(nodes, place));
     message

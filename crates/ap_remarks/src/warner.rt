@@ -58,7 +58,7 @@ fn empty_message(alloc: Global, text: &str, marks: &[Mark], place: usize) -> Mes
         "no clause has the predicate `@`",
         &[Piece::Word(text_at(text, marks, place))],
     );
-    message.note("this goal never holds", &[]);
+    message.note_text("this goal never holds");
     message
 }
 

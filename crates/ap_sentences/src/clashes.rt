@@ -18,15 +18,15 @@ use std::alloc::{AllocError, Global};
 
 /// Says what a node is.
 fn say_what(message: &mut Message, tokens: &[Token<'_>], node: Node) {
-    let said = match node.form {
-        Form::Tuple if node.count == 0 => "this",
-        Form::Tuple => "this tuple",
-        Form::List | Form::ListTail => "this list",
-        Form::Abs => "this abstraction",
-        Form::Apply => "`@(..)`",
-        _ => "`@`",
-    };
-    message.say(said, &[Piece::Word(text_at(tokens, node.first))]);
+    let word = Piece::Word(text_at(tokens, node.first));
+    match node.form {
+        Form::Tuple if node.count == 0 => message.say_text("this"),
+        Form::Tuple => message.say_text("this tuple"),
+        Form::List | Form::ListTail => message.say_text("this list"),
+        Form::Abs => message.say_text("this abstraction"),
+        Form::Apply => message.say("`@(..)`", &[word]),
+        _ => message.say("`@`", &[word]),
+    }
 }
 
 /// Whether a node is a name: a word that is no constructor.
@@ -106,7 +106,7 @@ fn note_wanted(
     node: Node,
 ) {
     match place_note(node_at(nodes, node.parent).form, node.rank) {
-        Some(note) => message.note(note, &[]),
+        Some(note) => message.note_text(note),
         None => note_argument(message, subject, typing, nodes, node),
     }
 }
@@ -189,9 +189,8 @@ fn label_name<'a>(message: &mut Message, typing: &Typing<'_, 'a>, token: usize, 
     message.label("no constructor `@` is declared", &[Piece::Word(word)]);
     match meant(typing, word, wanted) {
         Some(near) => note_meant(message, near),
-        None if !begins_ascii(word) => message.note(
+        None if !begins_ascii(word) => message.note_text(
             "a variable begins with `A` to `Z` or `_`; a word with another letter is a name or a constructor",
-            &[],
         ),
         None => {}
     }
@@ -206,7 +205,7 @@ fn types_message(
     given: usize,
 ) -> Message {
     let mut message = Message::new(alloc, span_between(typing.tokens, node.first, node.last));
-    message.say("a term of ", &[]);
+    message.say_text("a term of ");
     say_kind(
         &mut message,
         alloc,
@@ -214,14 +213,14 @@ fn types_message(
         &typing.slots.types,
         wanted,
     );
-    message.say(" is wanted here, and ", &[]);
+    message.say_text(" is wanted here, and ");
     say_what(&mut message, typing.tokens, node);
     if is_name(typing, node) {
-        message.say(" is a name", &[]);
+        message.say_text(" is a name");
         let shape = typing.slots.types.shape(wanted);
         label_name(&mut message, typing, node.first, shape);
     } else {
-        message.say(" is of ", &[]);
+        message.say_text(" is of ");
         say_kind(
             &mut message,
             alloc,
@@ -274,10 +273,9 @@ fn endless_message(
 ) -> Result<Message, Memory> {
     let token = endless_token(alloc, typing, nodes)?;
     let mut message = Message::new(alloc, span_at(typing.tokens, token));
-    message.say("no types fit: a type would be a part of itself", &[]);
-    message.note(
+    message.say_text("no types fit: a type would be a part of itself");
+    message.note_text(
         "no term is equal to a list or a tuple that has it as a part, as in `X = [X]`",
-        &[],
     );
     Ok(message)
 }

@@ -53,15 +53,19 @@ impl<'a> Table<'a> {
         }
     }
 
-    /// The place of a word.
-    fn place_of(&self, word: &str) -> Option<usize> {
-        self.words.get_index_of(word)
+    /// The place of a word, and what is declared of it.
+    fn look_up(&self, word: &str) -> Option<(usize, Entry<'a>)> {
+        let place = self.words.get_index_of(word)?;
+        match self.entries.get(place) {
+            Some(entry) => Some((place, *entry)),
+            None => None,
+        }
     }
 
     /// What is declared of a word.
     pub fn get(&self, word: &str) -> Option<Entry<'a>> {
-        match self.words.get_index_of(word) {
-            Some(place) => self.entries.get(place).copied(),
+        match self.look_up(word) {
+            Some((_, entry)) => Some(entry),
             None => None,
         }
     }
@@ -110,12 +114,10 @@ impl<'a> Words<'a> {
 
     /// The shape of a type that is one word.
     fn word_shape(&self, word: &str) -> Shape {
-        let Some(place) = self.types.place_of(word) else {
-            return Shape::Open;
-        };
-        match self.types.get(word) {
-            Some(entry) if entry.is_name => Shape::Name(place),
-            _ => Shape::Data(place),
+        match self.types.look_up(word) {
+            Some((place, entry)) if entry.is_name => Shape::Name(place),
+            Some((place, _)) => Shape::Data(place),
+            None => Shape::Open,
         }
     }
 

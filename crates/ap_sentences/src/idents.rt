@@ -77,9 +77,12 @@ impl<'a> Idents<'a> {
     }
 
     /// The identifier that the goal of a node brings.
-    fn brought_by(&self, goal: usize) -> Option<(usize, Ident)> {
+    fn brought_by(&self, goal: usize) -> Option<Ident> {
         match self.brought.binary_search_by_key(&goal, |pair| pair.0) {
-            Ok(at) => self.brought.get(at).copied(),
+            Ok(at) => match self.brought.get(at) {
+                Some((_, ident)) => Some(*ident),
+                None => None,
+            },
             Err(_) => None,
         }
     }
@@ -101,7 +104,7 @@ impl<'a> Idents<'a> {
             let above = node_at(nodes, parent);
             let brings = matches!(above.form, Form::New | Form::Exists);
             if brings && text_at(tokens, above.first.saturating_add(1)) == word {
-                if let Some((_, ident)) = self.brought_by(parent) {
+                if let Some(ident) = self.brought_by(parent) {
                     return Some(ident);
                 }
             }

@@ -17,15 +17,14 @@ use std::alloc::Global;
 /// Labels a variable or a name with what is known of its type.
 fn label_type(message: &mut Message, alloc: Global, typing: &Typing<'_, '_>, slot: usize) {
     match typing.slots.types.shape(slot) {
-        Shape::Open => message.label("nothing is known of its type", &[]),
-        Shape::OpenName => message.label(
+        Shape::Open => message.label_text("nothing is known of its type"),
+        Shape::OpenName => message.label_text(
             "its type is a name type, of which there are several",
-            &[],
         ),
         _ => {
-            message.label("its type is `", &[]);
+            message.label_text("its type is `");
             say_type(message, alloc, &typing.words, &typing.slots.types, slot);
-            message.say("`", &[]);
+            message.say_text("`");
         }
     }
 }
@@ -54,7 +53,7 @@ fn ident_message(
 /// What is said where no variable or name is found to which it applies.
 fn vague_message(alloc: Global, typing: &Typing<'_, '_>, sentence: &str) -> Message {
     let mut message = Message::new(alloc, span_at(typing.tokens, 0));
-    message.say(sentence, &[]);
+    message.say_text(sentence);
     message
 }
 
@@ -78,9 +77,8 @@ pub fn explain_open(
         Some(ident) => ident_message(alloc, typing, nodes, ident, "nothing fixes the type"),
         None => vague_message(alloc, typing, "nothing fixes the types of the item"),
     };
-    message.note(
+    message.note_text(
         "types are found from the item alone: a predicate or constructor that it is an argument of fixes its type",
-        &[],
     );
     Ok(message)
 }
@@ -105,13 +103,10 @@ fn note_constructors(
     if let Shape::Data(word) = typing.slots.types.shape(slot) {
         match constructor_of(&typing.words, &typing.slots.types, word) {
             Some(entry) => {
-                message.note(
-                    "each constructor needs a term of a type without terms: ",
-                    &[],
-                );
+                message.note_text("each constructor needs a term of a type without terms: ");
                 say_declared(message, subject, entry);
             }
-            None => message.note("it has no constructors before this item", &[]),
+            None => message.note_text("it has no constructors before this item"),
         }
     }
 }
@@ -140,10 +135,7 @@ fn empty_message(
 ) -> Message {
     let mut message = ident_message(alloc, typing, nodes, ident, "no term has the type");
     note_constructors(&mut message, subject, typing, ident.slot);
-    message.note(
-        "declare a constructor that needs no such term, in an item before",
-        &[],
-    );
+    message.note_text("declare a constructor that needs no such term, in an item before");
     message
 }
 

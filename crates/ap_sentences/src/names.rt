@@ -33,9 +33,8 @@ pub fn explain_binder(alloc: Global, tokens: &[Token<'_>], nodes: &[Node], word:
         "left of `\\` stands a name, and `@` is a variable",
         &[Piece::Word(word)],
     );
-    message.note(
+    message.note_text(
         "a name is spelled with a small letter: `x\\t`; each name of a clause stands for any name that is different from its other names",
-        &[],
     );
     message.note(
         "how it stands to `@` is said by goals: `x # @`, or `x = @`",
@@ -52,10 +51,7 @@ pub fn explain_swap(alloc: Global, tokens: &[Token<'_>], nodes: &[Node], word: &
         "the first two parts of `swap` are names, and `@` is a variable",
         &[Piece::Word(word)],
     );
-    message.note(
-        "a name is spelled with a small letter: `swap(a, b, t)`",
-        &[],
-    );
+    message.note_text("a name is spelled with a small letter: `swap(a, b, t)`");
     message
 }
 
@@ -180,10 +176,10 @@ fn first_of(
     nodes: &[Node],
     name: &str,
     covered: &IndexSet<&str>,
-    asked: (Question, &[bool]),
+    question: Question,
+    answers: &[bool],
 ) -> Result<Option<usize>, Memory> {
     let tokens = typing.tokens;
-    let (question, answers) = asked;
     for (place, node) in nodes.iter().enumerate() {
         if is_open(tokens, nodes, place, name) && !covered.contains(text_at(tokens, node.first)) {
             let slot = typing.slots.slot_of(*node);
@@ -195,7 +191,7 @@ fn first_of(
     Ok(None)
 }
 
-/// The same, where the question is whether a type may hold the name.
+/// The token of the first such variable whose type may hold the name, where these are covered by goals.
 fn first_holding(
     alloc: Global,
     typing: &Typing<'_, '_>,
@@ -211,7 +207,8 @@ fn first_holding(
         nodes,
         name,
         covered,
-        (question, answers.as_slice()),
+        question,
+        answers.as_slice(),
     )
 }
 
@@ -246,13 +243,9 @@ fn free_message(alloc: Global, tokens: &[Token<'_>], token: usize, name: &str) -
         "the name `@` stands free in the head of its clause",
         &[Piece::Word(name)],
     );
-    message.label(
-        "a name, since no constructor of this spelling is declared",
-        &[],
-    );
-    message.note(
+    message.label_text("a name, since no constructor of this spelling is declared");
+    message.note_text(
         "a name of a clause stands for any name, so a head can't tell one from another: write a variable, or declare a constructor",
-        &[],
     );
     message
 }
@@ -274,7 +267,7 @@ fn note_goal<'x>(message: &mut Message, name: &'x str, variable: &'x str) {
         "add the goal `@ # @` to the body, under `,` alone",
         &[Piece::Word(name), Piece::Word(variable)],
     );
-    message.note(NO_FORMALITY, &[]);
+    message.note_text(NO_FORMALITY);
 }
 
 /// What is said of a name that a variable of the head may hold.

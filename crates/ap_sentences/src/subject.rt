@@ -58,7 +58,7 @@ pub fn say_declared<'x>(message: &mut Message, subject: Subject<'x, '_>, entry: 
 
 /// Notes where a word is declared.
 pub fn note_declared(message: &mut Message, subject: Subject<'_, '_>, entry: Entry<'_>) {
-    message.note("", &[]);
+    message.note_text("");
     say_declared(message, subject, entry);
 }
 

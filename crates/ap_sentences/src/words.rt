@@ -169,7 +169,7 @@ fn note_type(message: &mut Message, word: &str) {
 
 /// Notes how a constructor or a predicate is declared.
 fn note_how(message: &mut Message, flaw: WordFlaw<'_>, word: &str) {
-    message.note("declare it in an item before", &[]);
+    message.note_text("declare it in an item before");
     if flaw.given > 0 {
         message.say(
             ", with the types of its @@",
@@ -237,7 +237,7 @@ fn note_way_out<'a>(
         return;
     }
     match known_word(flaw.space, word) {
-        Some(known) => message.note(known, &[]),
+        Some(known) => message.note_text(known),
         None if note_other(message, words, flaw, word) => {}
         None if matches!(flaw.space, Space::Types) => note_type(message, word),
         None => note_how(message, flaw, word),
@@ -266,7 +266,7 @@ fn say_repeated(message: &mut Message, space: Space, word: &str) {
         "the @ `@` is declared twice",
         &[Piece::Text(space_word(space)), Piece::Word(word)],
     );
-    message.label("declared again here", &[]);
+    message.label_text("declared again here");
 }
 
 fn say_count(message: &mut Message, has: usize, given: usize, word: &str) {
@@ -302,13 +302,11 @@ fn say_flaw(message: &mut Message, flaw: WordFlaw<'_>, entry: Entry<'_>) {
 /// Notes what else may help with it.
 fn note_flaw(message: &mut Message, flaw: WordFlaw<'_>, entry: Entry<'_>) {
     match flaw.kind {
-        TypeKind::Arity if entry.count == 1 && flaw.given > 1 => message.note(
+        TypeKind::Arity if entry.count == 1 && flaw.given > 1 => message.note_text(
             "one argument that is a tuple is written in parentheses of its own: `f((t, u))`",
-            &[],
         ),
-        TypeKind::Clash if entry.is_name => message.note(
+        TypeKind::Clash if entry.is_name => message.note_text(
             "names aren't declared: each word that is no constructor is one",
-            &[],
         ),
         _ => {}
     }

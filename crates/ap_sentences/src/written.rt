@@ -28,7 +28,7 @@ fn write_next(
 ) -> Result<(), AllocError> {
     match next {
         Rest::Sign(sign) => {
-            message.say(sign, &[]);
+            message.say_text(sign);
             Ok(())
         }
         Rest::Type(part) => {
@@ -91,7 +91,7 @@ fn write_type(
         };
         write_next(message, &mut work, words, types, next)?;
     }
-    message.say("..", &[]);
+    message.say_text("..");
     Ok(())
 }
 
@@ -117,12 +117,12 @@ pub fn say_kind(
     number: usize,
 ) {
     match types.shape(number) {
-        Shape::OpenName => message.say("a name type", &[]),
-        Shape::Open => message.say("any type", &[]),
+        Shape::OpenName => message.say_text("a name type"),
+        Shape::Open => message.say_text("any type"),
         _ => {
-            message.say("the type `", &[]);
+            message.say_text("the type `");
             say_type(message, alloc, words, types, number);
-            message.say("`", &[]);
+            message.say_text("`");
         }
     }
 }

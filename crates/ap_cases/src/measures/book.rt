@@ -5,7 +5,7 @@ use ap_defs::lists::List;
 use ap_defs::memory::Memory;
 use ap_defs::paths::{Out, Path};
 use ap_paths::{Closed, Run};
-use std::alloc::{AllocError, Global};
+use std::alloc::Global;
 
 const LEVELS: usize = 16;
 
@@ -40,16 +40,9 @@ fn filled(alloc: Global) -> Result<Book, Memory> {
     Ok(book)
 }
 
-fn merged(alloc: Global) -> Result<usize, Memory> {
+/// A book is filled, closed and merged: how many outputs it has.
+pub fn merged(alloc: Global) -> Result<usize, Memory> {
     let history = filled(alloc)?.close();
     let logs = List::of(Vec::new(alloc));
     Ok(merge(alloc, Closed { history, logs })?.len())
-}
-
-/// A book is filled, closed and merged.
-pub fn report(alloc: Global) -> Result<String, AllocError> {
-    match merged(alloc) {
-        Ok(count) => format!(in alloc; "{count} outputs"),
-        Err(Memory) => Err(AllocError),
-    }
 }

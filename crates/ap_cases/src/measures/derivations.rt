@@ -1,29 +1,18 @@
 //! A derivation of a million nodes in one chain: made from its path, written as a bundle, read again and verified.
-ghost use Rattle.std.specs.Prelude.{IfSome};
-ghost use Rattle.ap_backchain.specs.Branches.{IsBranchOf};
-ghost use Rattle.ap_backchain.specs.Problems.{HasQuery};
-
-use ap_backchain::branch::Branch;
-use ap_backchain::problem::Problem;
+use crate::derivations::proved_at;
+use crate::problems::{problem_of, program_of};
 use ap_bundle_read::read_cited_bundle;
 use ap_bundle_write::write_bundle;
 use ap_checker::verify::verify;
-use ap_defs::limits::SIZE_LIMIT;
 use ap_defs::lists::List;
 use ap_defs::memory::Memory;
 use ap_defs::outcomes::Verdict;
-use ap_defs::paths::{Node, Path};
-use ap_derive::assembling::Derived;
-use ap_derive::derivations::derive;
+use ap_defs::paths::Path;
 use ap_index::index::Index;
 use ap_program::restricted::Restricted;
 use ap_replay::replay::at;
-use ap_shared::arena::SharedTerms;
 use ap_shared::derivations::{SharedBundle, SharedProved};
-use ap_shared::sharing::share_answer;
-use ap_text::program_of_text;
-use std::alloc::{AllocError, Global};
-use std::rc::Rc;
+use std::alloc::Global;
 
 /// A predicate that goes round, or ends.
 const TEXT: &str = "nat : type. z : nat. pred p(nat). p(X) :- p(X). p(z). ?- p(z).";
@@ -42,28 +31,6 @@ pub enum Stage {
     Verified,
 }
 
-fn program_of(alloc: Global, text: &[u8]) -> Result<Restricted, Memory> {
-    if text.len() > SIZE_LIMIT {
-        return Err(Memory);
-    }
-    program_of_text(alloc, text).or(Err(Memory))
-}
-
-/// The query of a program that has one.
-fn only_query<'a>(program: &'a Index<'_>) -> Option<Problem<'a>>
-    ensures { IfSome result (λ p. HasQuery p) }
-{
-    if program.program().queries.items().len() == 1 {
-        Some(Problem {
-            program: &*program,
-            query: 1,
-            depth: DEPTH,
-        })
-    } else {
-        None
-    }
-}
-
 /// The path on which the predicate goes round up to the last atom, and ends there.
 fn long_path(alloc: Global) -> Result<Path, Memory> {
     let mut choices = Vec::new(alloc);
@@ -74,59 +41,29 @@ fn long_path(alloc: Global) -> Result<Path, Memory> {
     Ok(Path::of(choices))
 }
 
-/// The answer at which a branch stands, with its derivation.
-fn proved_at<'a>(
-    alloc: Global,
-    problem: &Problem<'a>,
-    branch: &Branch<'a>,
-) -> Result<SharedProved, Memory>
-    requires query { HasQuery problem.now }
-    requires of { IsBranchOf problem.now branch.now }
-{
-    match branch.node() {
-        Node::Answer => {
-            let answer = branch.answer(alloc, problem)?;
-            let mut terms = SharedTerms::new(alloc);
-            let answer = share_answer(alloc, &mut terms, &answer)?;
-            let Derived { terms, derivation } = derive(alloc, problem, branch, terms)?;
-            Ok(SharedProved {
-                query: problem.query,
-                terms: Rc::new(alloc, terms)?,
-                answer,
-                derivation,
-            })
-        }
-        _ => Err(Memory),
-    }
-}
-
-/// The answer at the long path, with its derivation.
-fn proved(alloc: Global, program: &Restricted) -> Result<SharedProved, Memory> {
-    let index = Index::of(alloc, program)?;
-    match only_query(&index) {
-        None => Err(Memory),
-        Some(problem) => match at(alloc, &problem, &long_path(alloc)?) {
+/// The answer at the long path of the query of a program with its index, with its derivation.
+fn proved_by(alloc: Global, index: &Index<'_>) -> Result<Option<SharedProved>, Memory> {
+    let path = long_path(alloc)?;
+    match problem_of(index, 1, DEPTH) {
+        None => Ok(None),
+        Some(problem) => match at(alloc, &problem, &path) {
             Ok(branch) => proved_at(alloc, &problem, &branch),
-            Err(_) => Err(Memory),
+            Err(_) => Ok(None),
         },
     }
 }
 
-/// The bytes of a bundle with the derivation.
-fn written(alloc: Global, program: &Restricted) -> Result<Vec<u8>, Memory> {
+/// A bundle with the answer at the long path and its derivation.
+fn proved(alloc: Global, program: &Restricted) -> Result<SharedBundle, Memory> {
+    let index = Index::of(alloc, program)?;
     let mut all = Vec::new(alloc);
-    all.push(proved(alloc, program)?)?;
-    let bundle = SharedBundle {
+    if let Some(proved) = proved_by(alloc, &index)? {
+        all.push(proved)?;
+    }
+    Ok(SharedBundle {
         text: List::of(TEXT.as_bytes().to_vec(alloc)?),
         proved: List::of(all),
-    };
-    write_bundle(alloc, &bundle)
-}
-
-/// The bundle, read again as `check` reads it.
-fn read(alloc: Global, program: &Restricted) -> Result<SharedBundle, Memory> {
-    let bytes = written(alloc, program)?;
-    read_cited_bundle(alloc, &bytes).or(Err(Memory))
+    })
 }
 
 /// How many derivations of a bundle check.
@@ -142,46 +79,45 @@ fn checked(alloc: Global, program: &Restricted, bundle: &SharedBundle) -> Result
     Ok(count)
 }
 
-/// Of what query the derivation is, once it is made.
-fn derived_line(alloc: Global, program: &Restricted) -> Result<String, Memory> {
-    let query = proved(alloc, program)?.query;
-    Ok(format!(in alloc; "derived for query {query}")?)
-}
-
-/// How many bytes are written.
-fn written_line(alloc: Global, program: &Restricted) -> Result<String, Memory> {
-    let count = written(alloc, program)?.len();
-    Ok(format!(in alloc; "{count} bytes")?)
-}
-
-/// How many derivations are read again.
-fn read_line(alloc: Global, program: &Restricted) -> Result<String, Memory> {
-    let count = read(alloc, program)?.proved.items().len();
-    Ok(format!(in alloc; "{count} read")?)
-}
-
-/// How many derivations are read again and check.
-fn verified_line(alloc: Global, program: &Restricted) -> Result<String, Memory> {
-    let bundle = read(alloc, program)?;
-    let count = checked(alloc, program, &bundle)?;
-    Ok(format!(in alloc; "{count} verified")?)
-}
-
-/// What is told of the derivation, once it has been taken so far.
-fn told(alloc: Global, stage: Stage) -> Result<String, Memory> {
-    let program = program_of(alloc, TEXT.as_bytes())?;
+/// How many derivations of a bundle's bytes are read again, or are read again and check.
+fn read_again(
+    alloc: Global,
+    stage: Stage,
+    program: &Restricted,
+    bytes: &[u8],
+) -> Result<usize, Memory> {
+    let bundle = read_cited_bundle(alloc, bytes).or(Err(Memory))?;
     match stage {
-        Stage::Derived => derived_line(alloc, &program),
-        Stage::Written => written_line(alloc, &program),
-        Stage::Read => read_line(alloc, &program),
-        Stage::Verified => verified_line(alloc, &program),
+        Stage::Verified => checked(alloc, program, &bundle),
+        _ => Ok(bundle.proved.items().len()),
     }
 }
 
-/// The derivation, taken so far.
-pub fn report(alloc: Global, stage: Stage) -> Result<String, AllocError> {
-    match told(alloc, stage) {
-        Ok(line) => Ok(line),
-        Err(Memory) => Err(AllocError),
+/// How many derivations are made, or how many bytes of them are written, or how many are read again.
+fn taken(
+    alloc: Global,
+    stage: Stage,
+    program: &Restricted,
+    bundle: &SharedBundle,
+) -> Result<usize, Memory> {
+    if let Stage::Derived = stage {
+        return Ok(bundle.proved.items().len());
     }
+    let bytes = write_bundle(alloc, bundle)?;
+    match stage {
+        Stage::Written => Ok(bytes.len()),
+        _ => read_again(alloc, stage, program, &bytes),
+    }
+}
+
+/// The derivation, taken so far by a program.
+fn taken_by(alloc: Global, stage: Stage, program: &Restricted) -> Result<usize, Memory> {
+    let bundle = proved(alloc, program)?;
+    taken(alloc, stage, program, &bundle)
+}
+
+/// The derivation, taken so far: of what is made there is one, and otherwise none.
+pub fn measured_derivation(alloc: Global, stage: Stage) -> Result<usize, Memory> {
+    let program = program_of(alloc, TEXT.as_bytes())?;
+    taken_by(alloc, stage, &program)
 }

@@ -10,7 +10,7 @@ use ap_defs::paths::{Out, Path};
 use ap_io::NoGate;
 use ap_paths::{Run, Tree, Visit};
 use ap_steal::search;
-use std::alloc::{AllocError, Global};
+use std::alloc::Global;
 use std::sync::Wait;
 use std::thread::Threads;
 
@@ -103,40 +103,23 @@ fn gather(alloc: Global, levels: &[u8], path: &Path, runs: &mut Vec<Run>) -> Res
     }
 }
 
-fn gathered(alloc: Global) -> Result<usize, Memory> {
+/// How many leaves a plain recursion goes through.
+pub fn gathered(alloc: Global) -> Result<usize, Memory> {
     let mut runs = Vec::new(alloc);
     gather(alloc, &[0; LEVELS], &Path::root(alloc), &mut runs)?;
     Ok(runs.len())
 }
 
-fn searched<R: Threads + Wait + Sync>(rt: &R, alloc: Global, workers: u32) -> Result<usize, Memory>
+/// How many leaves so many workers search.
+pub fn searched<R: Threads + Wait + Sync>(
+    rt: &R,
+    alloc: Global,
+    workers: u32,
+) -> Result<usize, Memory>
     requires { (0 < workers) × (workers ≤ 64) }
 {
     let tree = Pairs { depth: LEVELS };
     let closed = search(rt, alloc, &tree, workers, &NoGate)?;
     // There is an entry for each path, and half of them but one are of paths that were split.
     Ok(closed.history.items().len() / 2 + 1)
-}
-
-fn line(alloc: Global, counted: Result<usize, Memory>) -> Result<String, AllocError> {
-    match counted {
-        Ok(count) => format!(in alloc; "{count} leaves"),
-        Err(Memory) => Err(AllocError),
-    }
-}
-
-/// The tree, searched by so many workers.
-pub fn report<R: Threads + Wait + Sync>(
-    rt: &R,
-    alloc: Global,
-    workers: u32,
-) -> Result<String, AllocError>
-    requires { (0 < workers) × (workers ≤ 64) }
-{
-    line(alloc, searched(rt, alloc, workers))
-}
-
-/// The tree, gone through by a plain recursion.
-pub fn report_recursion(alloc: Global) -> Result<String, AllocError> {
-    line(alloc, gathered(alloc))
 }

@@ -6,10 +6,10 @@ ghost use Rattle.ap_tools.specs.Seats.{book_id};
 use ap_defs::memory::Memory;
 use ap_paths::Limit;
 use ap_tools::{Seat, SharedBook};
-use std::alloc::{AllocError, Global};
+use std::alloc::Global;
 use std::sync::Wait;
 
-const TURNS: u32 = 1_000_000;
+const TURNS: usize = 1_000_000;
 
 fn made(alloc: Global) -> Result<(SharedBook, Seat), Memory>
     ensures { IfOk result (λ r. r.1.book ≡ book_id r.0) }
@@ -21,18 +21,11 @@ fn made(alloc: Global) -> Result<(SharedBook, Seat), Memory>
     Ok((book, seat))
 }
 
-fn taken<R: Wait>(rt: &R, alloc: Global) -> Result<u32, Memory> {
+/// Turns of a book are taken, so many.
+pub fn taken<R: Wait>(rt: &R, alloc: Global) -> Result<usize, Memory> {
     let (book, mut seat) = made(alloc)?;
     for _ in 0..TURNS {
         book.status(rt, &mut seat);
     }
     Ok(TURNS)
-}
-
-/// Turns of a book are taken.
-pub fn report<R: Wait>(rt: &R, alloc: Global) -> Result<String, AllocError> {
-    match taken(rt, alloc) {
-        Ok(count) => format!(in alloc; "{count} turns"),
-        Err(Memory) => Err(AllocError),
-    }
 }

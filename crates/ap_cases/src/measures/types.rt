@@ -4,7 +4,7 @@ use ap_defs::memory::Memory;
 use ap_defs::terms::Shape;
 use ap_types::errors::TypesError;
 use ap_values::solutions::solve;
-use std::alloc::{AllocError, Global};
+use std::alloc::Global;
 
 const STEPS: u64 = 20;
 
@@ -23,18 +23,11 @@ fn equations(alloc: Global) -> Result<Vec<(Shape, Shape)>, Memory> {
     Ok(all)
 }
 
-fn solved(alloc: Global) -> Result<usize, Memory> {
+/// Equations of types are solved: how many shapes their holes have.
+pub fn solved(alloc: Global) -> Result<usize, Memory> {
     match solve(alloc, equations(alloc)?, &[], 0) {
         Ok(assignment) => Ok(assignment.holes.items().len()),
         Err(TypesError::Clash) => Ok(0),
         Err(TypesError::Memory) => Err(Memory),
-    }
-}
-
-/// Equations of types are solved.
-pub fn report(alloc: Global) -> Result<String, AllocError> {
-    match solved(alloc) {
-        Ok(count) => format!(in alloc; "{count} shapes"),
-        Err(Memory) => Err(AllocError),
     }
 }
