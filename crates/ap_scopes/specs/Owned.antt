@@ -12,16 +12,16 @@ use Rattle.ap_scopes.specs.declared.owned.TakenTree.TheVariants as trees
 use Rattle.ap_scopes.specs.declared.owned.TakenGoal.{TakenGoal}
 use Rattle.ap_scopes.specs.declared.owned.TakenGoal.TheVariants as apart
 
-abbrev pub taken_tree_of : TakenTree → Term
-taken_tree_of (trees.Cell t u) = terms.Cell (term_of t) (term_of u)
-taken_tree_of (trees.Pair t u) = terms.Pair (term_of t) (term_of u)
-taken_tree_of (trees.Whole t) = term_of t
+abbrev pub tree_together : TakenTree → Term
+tree_together (trees.Cell t u) = terms.Cell (term_of t) (term_of u)
+tree_together (trees.Pair t u) = terms.Pair (term_of t) (term_of u)
+tree_together (trees.Whole t) = term_of t
 
-abbrev pub taken_goal_of : TakenGoal → Goal
-taken_goal_of (apart.Both g h) = goals.Both (goal_of_tree g) (goal_of_tree h)
-taken_goal_of (apart.Either g h) = goals.Either (goal_of_tree g) (goal_of_tree h)
-taken_goal_of (apart.Equal t u) = goals.Equation (term_of t) (term_of u)
-taken_goal_of (apart.Whole g) = goal_of_tree g
+abbrev pub goal_together : TakenGoal → Goal
+goal_together (apart.Both g h) = goals.Both (goal_of_tree g) (goal_of_tree h)
+goal_together (apart.Either g h) = goals.Either (goal_of_tree g) (goal_of_tree h)
+goal_together (apart.Equal t u) = goals.Equation (term_of t) (term_of u)
+goal_together (apart.Whole g) = goal_of_tree g
 
 abbrev pub right_part : Tree → Term
 right_part (code.Cell' p t q u) = term_of u

@@ -6,7 +6,7 @@ ghost use Rattle.ap_defs.specs.Goals.{goal_over};
 ghost use Rattle.ap_defs.specs.RawTerms.{raw_of};
 ghost use Rattle.ap_trees.specs.Goals.{Atom, Equation};
 ghost use Rattle.ap_trees.specs.Trees.{goal_of_tree, term_of, trees_of};
-ghost use Rattle.ap_scopes.specs.Owned.{right_goal, right_part, right_side, taken_goal_of, taken_tree_of};
+ghost use Rattle.ap_scopes.specs.Owned.{right_goal, right_part, right_side, goal_together, tree_together};
 ghost use Rattle.ap_scopes.specs.Resolution as spec;
 ghost use Rattle.ap_scopes.specs.Views.{IsIndexed, IsSmall, IsNumbered, declared_of, found_of, scope_of};
 
@@ -53,7 +53,7 @@ fn take_right<'a>(tree: &mut Tree<'a>) -> Tree<'a>
 
 /// A tree, taken apart.
 fn tree_apart<'a>(tree: Tree<'a>) -> TakenTree<'a>
-    ensures { taken_tree_of result ≡ term_of tree.entry }
+    ensures { tree_together result ≡ term_of tree.entry }
 {
     let mut whole = tree;
     match &mut whole {
@@ -100,7 +100,7 @@ fn take_side<'a>(goal: &mut GoalTree<'a>) -> Tree<'a>
 
 /// The tree of a goal, taken apart.
 fn goal_apart<'a>(alloc: Global, goal: GoalTree<'a>) -> TakenGoal<'a>
-    ensures { taken_goal_of result ≡ goal_of_tree goal.entry }
+    ensures { goal_together result ≡ goal_of_tree goal.entry }
 {
     let mut whole = goal;
     match &mut whole {

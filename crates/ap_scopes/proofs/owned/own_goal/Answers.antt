@@ -3,7 +3,7 @@ use Rattle.ap_defs.specs.Goals.{goal_over, both, either}
 use Rattle.ap_defs.specs.RawTerms.{raw_of}
 use Rattle.ap_trees.specs.Goals as goals
 use Rattle.ap_trees.specs.Trees.{goal_of_tree}
-use Rattle.ap_scopes.specs.Owned.{taken_goal_of}
+use Rattle.ap_scopes.specs.Owned.{goal_together}
 use Rattle.ap_scopes.specs.Resolution.{resolved_goal}
 use Rattle.ap_scopes.specs.Views.{declared_of, scope_of, found_of}
 use Rattle.ap_scopes.proofs.LayerLemmas.{then_is, goal_goes_in}
@@ -19,7 +19,7 @@ resolving-preserved-in-Both c =
     let right = goal_of_tree c.in-Both.right in
     let before = found_of c.resolving.found in
     let after = found_of c.own_front.new.found in
-    let is : goal_of_tree c.resolving.rest ≡ goals.Both left right = sym c.goal_apart.ensures ∙ ap taken_goal_of c.in-Both.is in
+    let is : goal_of_tree c.resolving.rest ≡ goals.Both left right = sym c.goal_apart.ensures ∙ ap goal_together c.in-Both.is in
     let part = resolved_goal d s right after in
     record {
       all = goal_goes_in c.resolving.layers.items c.push.new.self.items layer (resolved_goal d s (goal_of_tree c.resolving.rest) before) part _ c.in_ok-push-in-Both.ensures.items
@@ -37,7 +37,7 @@ resolving-preserved c =
     let right = goal_of_tree c.in-Either.right in
     let before = found_of c.resolving.found in
     let after = found_of c.own_front-in-Either.new.found in
-    let is : goal_of_tree c.resolving.rest ≡ goals.Either left right = sym c.goal_apart.ensures ∙ ap taken_goal_of c.in-Either.is in
+    let is : goal_of_tree c.resolving.rest ≡ goals.Either left right = sym c.goal_apart.ensures ∙ ap goal_together c.in-Either.is in
     let part = resolved_goal d s right after in
     record {
       all = goal_goes_in c.resolving.layers.items c.push-in-Either.new.self.items layer (resolved_goal d s (goal_of_tree c.resolving.rest) before) part _ c.in_ok-push-in-Either.ensures.items
