@@ -1,6 +1,5 @@
 //! Goals with numbers for their words.
 ghost use Rattle.std.specs.Prelude.{◌≡◌, ◌<◌, ◌≤◌, ◌+◌, ◌^◌, IfOk, OnOk, IfSome, map};
-ghost use Rattle.std.specs.Option.{option_map};
 ghost use Rattle.ap_defs.specs.RawTerms.{raw_of};
 ghost use Rattle.ap_defs.specs.Goals.{goal_over};
 ghost use Rattle.ap_defs.specs.Limits.{size_limit};
@@ -225,25 +224,4 @@ fn resolved_new<'a>(
     let around = Brought::Inner(Binder::Word(word), num, scope);
     let inner = resolved_goal(alloc, declared, &around, inner, found)?;
     Ok(Goal::New(Name { sort: 0, num }, Box::new(alloc, inner)?))
-}
-
-/// The body of a clause; a fact has none.
-pub fn resolved_body<'a>(
-    alloc: Global,
-    declared: &Declarations<'_>,
-    body: &Option<GoalTree<'a>>,
-    found: &mut Identifiers<'a>,
-) -> Result<Goal<Raw>, Memory>
-    requires indexed { IsIndexed declared.now }
-    requires small { IsSmall declared.now }
-    requires numbered { IsNumbered found.old }
-    ensures value { IfOk result (λ g. (goal_over raw_of g, found_of found.new)
-        ≡ spec.resolved_body (declared_of declared.now) (option_map goal_of_tree body.now)
-        (found_of found.old)) }
-    ensures numbered { OnOk result (IsNumbered found.new) }
-{
-    match body {
-        None => Ok(Goal::True),
-        Some(body) => resolved_goal(alloc, declared, &Brought::Nothing, body, found),
-    }
 }

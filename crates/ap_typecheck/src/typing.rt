@@ -22,9 +22,9 @@ use ap_defs::memory::Memory;
 use ap_defs::terms::Raw;
 use ap_kinds::{goal_with_sorts, kinds_of_clause, kinds_of_query, terms_with_sorts};
 use ap_scopes::declarations::Declarations;
-use ap_scopes::goals::{predicate_number, resolved_body, resolved_goal};
+use ap_scopes::goals::predicate_number;
 use ap_scopes::identifiers::{Brought, Identifier, Identifiers};
-use ap_scopes::terms::resolved_terms;
+use ap_scopes::owned::{own_body, own_goal, own_terms};
 use ap_trees::{GoalTree, Tree};
 use ap_types::inhabitants::Inhabitants;
 use std::alloc::Global;
@@ -58,8 +58,8 @@ fn clause_parts<'a>(
         (option_map goal_of_tree body.entry)) }
 {
     let mut found = Identifiers::new(alloc);
-    let args = resolved_terms(alloc, declared, &Brought::Nothing, args.items(), &mut found)?;
-    let body = resolved_body(alloc, declared, &body, &mut found)?;
+    let args = own_terms(alloc, declared, &Brought::Nothing, args, &mut found)?;
+    let body = own_body(alloc, declared, body, &mut found)?;
     Ok(ClauseParts {
         args,
         body,
@@ -78,7 +78,7 @@ fn query_parts<'a>(
         ≡ resolved_query (declared_of declared.now) (goal_of_tree goal.entry)) }
 {
     let mut found = Identifiers::new(alloc);
-    let goal = resolved_goal(alloc, declared, &Brought::Nothing, &goal, &mut found)?;
+    let goal = own_goal(alloc, declared, &Brought::Nothing, goal, &mut found)?;
     Ok(QueryParts {
         goal,
         found: found.into_found(),
