@@ -2,7 +2,7 @@
 //! exit status.
 #![tactic(auto)]
 
-use ap_beside::{Counting, Remembering, given_words, keep_memory, say};
+use ap_beside::{Counting, Remembering, given_words, is_stack_large, keep_memory, say};
 use ap_io::{NoGate, StdSink, StdSource};
 use ap_remarks::Tally;
 use ap_top::{Status, top};
@@ -11,9 +11,9 @@ use std::sync::Wait;
 use std::thread::{Builder, Threads};
 use std::{io, thread};
 
-// The stack of the thread that does the work. The terms of a stated instance, or of a proof that is covered,
-// may be as deep as a search goes, and a walk down their left parts takes a frame a level. Memory is taken
-// only for what is used of it.
+// The stack of the thread that does the work, but for runs. The terms of a stated instance, or of a proof that
+// is covered, may be as deep as a search goes, and a walk down their left parts takes a frame a level. Memory
+// is taken only for what is used of it.
 const STACK: usize = 1 << 30;
 
 /// The word that names the command.
@@ -30,8 +30,8 @@ fn reads_bundle(words: &[String]) -> bool {
     command == "check" || command == "convert" || command == "cover"
 }
 
-/// Whether the report has lines of totals. A bundle has none of its own.
-fn writes_totals(words: &[String]) -> bool {
+/// Whether a text is run. Its report has lines of totals; a bundle has none of its own.
+fn runs_text(words: &[String]) -> bool {
     command(words) == "run"
 }
 
@@ -51,7 +51,7 @@ fn run<R: Threads + Wait + Sync + AllocGlobal + Input + Print + Eprint>(
     let mut sink = Counting::new(StdSink::new(io::writer(rt)));
     let status = top(rt, alloc, words, &mut source, &mut sink, &NoGate);
     let counted = sink.tally();
-    let tally = if writes_totals(words) {
+    let tally = if runs_text(words) {
         counted
     } else {
         Tally::new()
@@ -64,6 +64,9 @@ fn main(rt: HostRuntime) -> ExitCode {
     let Ok(words) = given_words(&rt) else {
         return ExitCode::from(Status::Memory.code());
     };
+    if runs_text(&words) && is_stack_large(&rt) {
+        return ExitCode::from(run(&rt, &words).code());
+    }
     let status = thread::scope(thread::scope_env(), &rt, |scope| {
         let large = Builder::new().stack_size(STACK);
         match large.spawn_scoped(scope, || run(&rt, &words)) {

@@ -3,7 +3,7 @@
 //! commands, so it is sooner proved.
 #![tactic(auto)]
 
-use ap_beside::{Counting, Remembering, given_words, keep_memory, say};
+use ap_beside::{Counting, Remembering, given_words, is_stack_large, keep_memory, say};
 use ap_io::{NoGate, StdSink, StdSource};
 use ap_run::{AtEnd, Status};
 use std::process::ExitCode;
@@ -11,8 +11,8 @@ use std::sync::Wait;
 use std::thread::{Builder, Threads};
 use std::{io, thread};
 
-// The stack of the thread that does the work. A text may be nested 256 deep, and reading takes some
-// frames a level. Memory is taken only for what is used of it.
+// The stack of the thread that does the work where the first one has too little. Memory is taken only for
+// what is used of it.
 const STACK: usize = 1 << 30;
 
 /// Runs the interpreter on standard input and output, and says on standard error what helps.
@@ -41,6 +41,9 @@ fn main(rt: HostRuntime) -> ExitCode {
     let Ok(words) = given_words(&rt) else {
         return ExitCode::from(Status::Memory.code());
     };
+    if is_stack_large(&rt) {
+        return ExitCode::from(run(&rt, &words).code());
+    }
     let status = thread::scope(thread::scope_env(), &rt, |scope| {
         let large = Builder::new().stack_size(STACK);
         match large.spawn_scoped(scope, || run(&rt, &words)) {
