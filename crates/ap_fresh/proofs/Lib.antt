@@ -2,4 +2,5 @@ pub mod SetLemmas
 pub mod StepLemmas
 pub mod RenamedLemmas
 pub mod PendingLemmas
+mod ListingLemmas
 mod SoughtLemmas

@@ -40,7 +40,7 @@ module _ (bound : Bound) (rank : Var → ℕ) (ranked : IsRanked bound rank) whe
   abbrev pub visits_below : Cond → ℕ
   visits_below c = visits bound rank (susp [] c.var)
 
-  all_append : (ps qs : List Pending) → all_left (ps ++ qs) ≡ both (all_left ps) (all_left qs)
+  pub all_append : (ps qs : List Pending) → all_left (ps ++ qs) ≡ both (all_left ps) (all_left qs)
   all_append [] qs = some_both (all_left qs)
     where
       some_both : (x : Option (List Cond)) → x ≡ both (Some []) x

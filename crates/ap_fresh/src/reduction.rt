@@ -8,7 +8,7 @@ ghost use Rattle.ap_defs.specs.Terms.{susp, term_of};
 ghost use Rattle.ap_theory.specs.StatementsOnConditions.{collected, is_free};
 ghost use Rattle.ap_perm.specs.Closures.{closure_term};
 ghost use Rattle.ap_perm.specs.Lookups.{carried_out};
-ghost use Rattle.ap_fresh.specs.Reduction.{added, pending_term, IsLeast};
+ghost use Rattle.ap_fresh.specs.Reduction.{added, pending_term, IsLeast, StandBehind};
 
 use crate::error::FreshError;
 use crate::pending::Pending;
@@ -46,6 +46,9 @@ fn collect<L: Look>(first: Pending<'_>, look: &L, conds: &mut Vec<Cond>) -> Resu
     ensures added { OnOk result (added (by_rules first.entry.name (carried_out (L.bound look.now)
         (L.rank look.now) (pending_term first.entry))) conds.old.items
         ≡ collected (Some conds.new.items)) }
+    ensures behind { OnOk result (StandBehind (by_rules first.entry.name (carried_out
+        (L.bound look.now) (L.rank look.now) (pending_term first.entry))) conds.old.items
+        conds.new.items) }
     ensures refuted { IsErrOf result FreshError.Refuted →
         by_rules first.entry.name (carried_out (L.bound look.now) (L.rank look.now)
         (pending_term first.entry)) ≡ None }
@@ -108,6 +111,8 @@ pub fn add_reduced<L: Look>(
 ) -> Result<(), FreshError>
     ensures added { OnOk result (added (by_rules a (carried_out (L.bound look.now) (L.rank look.now)
         (closure_term t.now))) conds.old.items ≡ collected (Some conds.new.items)) }
+    ensures behind { OnOk result (StandBehind (by_rules a (carried_out (L.bound look.now)
+        (L.rank look.now) (closure_term t.now))) conds.old.items conds.new.items) }
     ensures refuted { IsErrOf result FreshError.Refuted →
         by_rules a (carried_out (L.bound look.now) (L.rank look.now) (closure_term t.now)) ≡ None }
 {
@@ -124,6 +129,8 @@ pub fn add_reduced_var<L: Look>(
 ) -> Result<(), FreshError>
     ensures added { OnOk result (added (by_rules a (carried_out (L.bound look.now) (L.rank look.now)
         (susp [] x))) conds.old.items ≡ collected (Some conds.new.items)) }
+    ensures behind { OnOk result (StandBehind (by_rules a (carried_out (L.bound look.now)
+        (L.rank look.now) (susp [] x))) conds.old.items conds.new.items) }
     ensures refuted { IsErrOf result FreshError.Refuted →
         by_rules a (carried_out (L.bound look.now) (L.rank look.now) (susp [] x)) ≡ None }
 {

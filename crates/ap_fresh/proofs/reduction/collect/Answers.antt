@@ -1,4 +1,4 @@
-use Rattle.std.proofs.Common.{rules, map, ◌≡◌, true, false, true≢false, Some, ◌+◌, sym, ap, ap₂, ◌∙◌, List, [], ◌∷◌, ◌++◌, append_assoc, append-nil, arith, inl, inr, refl, subst}
+use Rattle.std.proofs.Common.{rules, map, ◌≡◌, true, false, Some, ◌+◌, sym, ap, ap₂, ◌∙◌, List, [], ◌∷◌, ◌++◌, append_assoc, append-nil, arith, inl, refl, subst}
 use Rattle.ap_defs.specs.Freshness.{both, reduce as by_rules}
 use Rattle.ap_defs.specs.Permutations.{act_name, inverse, name_eq}
 use Rattle.ap_defs.specs.Renaming.{rename_name, rename_swap, rename_term, rename_var}
@@ -9,8 +9,9 @@ use Rattle.ap_fresh.specs.Sought.{was_sought}
 use Rattle.ap_fresh.specs.declared.pending.Pending.{Pending}
 use Rattle.ap_perm.specs.Closures.{lent_term}
 use Rattle.ap_perm.specs.Lookups.{carried_out}
-use Rattle.ap_fresh.proofs.PendingLemmas.{IsToldBelow, all_left, all_one, behind, cond_taken, fewer, fewer_part, in_var, inner_of, inner_visits, last_refuted, left_out, one_sought, problem_of, replaced, visits_below, visits_of, visits_swapped}
-use Rattle.ap_fresh.proofs.SetLemmas.{none_of_both, refuted_is, tells, told_same}
+use Rattle.ap_fresh.proofs.ListingLemmas.{IsPutting, all_put, behind_added, cond_put, first_put, others_put, out_put, refuted_put, sought_put}
+use Rattle.ap_fresh.proofs.PendingLemmas.{IsToldBelow, all_one, behind, fewer, fewer_part, in_var, inner_of, inner_visits, problem_of, visits_below, visits_of, visits_swapped}
+use Rattle.ap_fresh.proofs.SetLemmas.{tells}
 use Rattle.ap_fresh.proofs.StepLemmas.{abs_problem, app_problem, binder_problem, bound_problem, moved_problem, name_problem, name_refuted, pair_problem, problem, unbound_problem, unit_problem, var_problem}
 use Rattle.ap_defs.specs.declared.terms.Name.{Name}
 use Rattle.ap_perm.proofs.VisitLemmas.{visits, visits_abs, visits_app, visits_bound, visits_pair, visits_some}
@@ -18,28 +19,23 @@ use Rattle.ap_fresh.proofs.reduction.collect.Goals as goal
 
 pub collecting-init : goal.collecting-init
 collecting-init g c =
-    let items = c.in_ok-push.ensures.items ∙ ap (λ (xs : List Pending). xs ++ c.args.first ∷ []) c.new-left.ensures.items in (
-      (λ e. ap (λ o. tells (both o (Some c.args.conds.now.items)) e) (ap (all_left (g.L.Look.bound c.args.look.now) (g.L.Look.rank c.args.look.now) (g.met.L.Look.ranked c.args.look.now)) items ∙ all_one (g.L.Look.bound c.args.look.now) (g.L.Look.rank c.args.look.now) (g.met.L.Look.ranked c.args.look.now) c.args.first)),
-      (λ e d s t. absurd (true≢false (sym s ∙ c.new-sought.ensures d))),
-    )
+    first_put (g.L.Look.bound c.args.look.now) (g.L.Look.rank c.args.look.now) (g.met.L.Look.ranked c.args.look.now) c.args.conds.now.items (was_sought c.new-sought.result) c.push.new.self.items c.args.first
+    (c.in_ok-push.ensures.items ∙ ap (λ (xs : List Pending). xs ++ c.args.first ∷ []) c.new-left.ensures.items) c.new-sought.ensures
 
 pub collecting-smaller-in-Unit : goal.collecting-smaller-in-Unit
 collecting-smaller-in-Unit g c = fewer (g.L.Look.bound c.args.look.now) (g.L.Look.rank c.args.look.now) (g.met.L.Look.ranked c.args.look.now) c.pop.new.self.items [] c.pop.new.self.items c.collecting.left.items c.in-Some.p c.in-Some.ensures.items (sym (append-nil c.pop.new.self.items)) (visits_some (g.L.Look.bound c.args.look.now) (g.L.Look.rank c.args.look.now) (g.met.L.Look.ranked c.args.look.now) (pending_term c.in-Some.p))
 
 pub collecting-preserved-in-Unit : goal.collecting-preserved-in-Unit
 collecting-preserved-in-Unit g c =
-    replaced (g.L.Look.bound c.args.look.now) (g.L.Look.rank c.args.look.now) (g.met.L.Look.ranked c.args.look.now) (both (by_rules c.args.first.name (carried_out (g.L.Look.bound c.args.look.now) (g.L.Look.rank c.args.look.now) (pending_term c.args.first))) (Some c.args.conds.now.items)) (was_sought c.collecting.sought) c.pop.new.self.items [] c.pop.new.self.items c.collecting.left.items c.in-Some.p c.in-Some.ensures.items (sym (append-nil c.pop.new.self.items)) c.collecting.conds.items c.collecting.invariant
+    others_put (g.L.Look.bound c.args.look.now) (g.L.Look.rank c.args.look.now) (g.met.L.Look.ranked c.args.look.now) c.args.conds.now.items (by_rules c.args.first.name (carried_out (g.L.Look.bound c.args.look.now) (g.L.Look.rank c.args.look.now) (pending_term c.args.first))) (was_sought c.collecting.sought) c.pop.new.self.items [] c.pop.new.self.items c.collecting.left.items c.in-Some.p c.in-Some.ensures.items (sym (append-nil c.pop.new.self.items)) c.collecting.conds.items c.collecting.invariant
     (unit_problem (g.L.Look.bound c.args.look.now) (g.L.Look.rank c.args.look.now) (g.met.L.Look.ranked c.args.look.now) c.in-Some.p.name (pending_term c.in-Some.p) (ap (λ z. rename_term c.in-Some.p.base (term_of z)) c.in-Unit.is)) tt
 
 pub returns-then-eq-clause-refuted : goal.returns-then-eq-clause-refuted
 unfolding name_eq
 returns-then-eq-clause-refuted g c =
     let e : name_eq c.in-Some.p.name (rename_name c.in-Some.p.base c.in-Name.b) ≡ true = search rules in
-    let x = by_rules c.args.first.name (carried_out (g.L.Look.bound c.args.look.now) (g.L.Look.rank c.args.look.now) (pending_term c.args.first)) in
-    λ h. none_of_both x c.args.conds.now.items
-    (refuted_is (both x (Some c.args.conds.now.items))
-    (last_refuted (g.L.Look.bound c.args.look.now) (g.L.Look.rank c.args.look.now) (g.met.L.Look.ranked c.args.look.now) (both (by_rules c.args.first.name (carried_out (g.L.Look.bound c.args.look.now) (g.L.Look.rank c.args.look.now) (pending_term c.args.first))) (Some c.args.conds.now.items)) (was_sought c.collecting.sought) c.pop.new.self.items c.collecting.left.items c.in-Some.p c.collecting.conds.items c.in-Some.ensures.items
-    (name_refuted (g.L.Look.bound c.args.look.now) (g.L.Look.rank c.args.look.now) (g.met.L.Look.ranked c.args.look.now) c.in-Some.p.name (rename_name c.in-Some.p.base c.in-Name.b) (pending_term c.in-Some.p) (ap (λ z. rename_term c.in-Some.p.base (term_of z)) c.in-Name.is) e) c.collecting.invariant))
+    λ h. refuted_put (g.L.Look.bound c.args.look.now) (g.L.Look.rank c.args.look.now) (g.met.L.Look.ranked c.args.look.now) c.args.conds.now.items (by_rules c.args.first.name (carried_out (g.L.Look.bound c.args.look.now) (g.L.Look.rank c.args.look.now) (pending_term c.args.first))) (was_sought c.collecting.sought) c.pop.new.self.items [] c.pop.new.self.items c.collecting.left.items c.in-Some.p c.in-Some.ensures.items (sym (append-nil c.pop.new.self.items)) c.collecting.conds.items c.collecting.invariant
+    (name_refuted (g.L.Look.bound c.args.look.now) (g.L.Look.rank c.args.look.now) (g.met.L.Look.ranked c.args.look.now) c.in-Some.p.name (rename_name c.in-Some.p.base c.in-Name.b) (pending_term c.in-Some.p) (ap (λ z. rename_term c.in-Some.p.base (term_of z)) c.in-Name.is) e)
 
 pub collecting-smaller-else-eq : goal.collecting-smaller-else-eq
 collecting-smaller-else-eq g c = fewer (g.L.Look.bound c.args.look.now) (g.L.Look.rank c.args.look.now) (g.met.L.Look.ranked c.args.look.now) c.pop.new.self.items [] c.pop.new.self.items c.collecting.left.items c.in-Some.p c.in-Some.ensures.items (sym (append-nil c.pop.new.self.items)) (visits_some (g.L.Look.bound c.args.look.now) (g.L.Look.rank c.args.look.now) (g.met.L.Look.ranked c.args.look.now) (pending_term c.in-Some.p))
@@ -48,7 +44,7 @@ pub collecting-preserved-else-eq : goal.collecting-preserved-else-eq
 unfolding name_eq
 collecting-preserved-else-eq g c =
     let e : name_eq c.in-Some.p.name (rename_name c.in-Some.p.base c.in-Name.b) ≡ false = search rules in
-    replaced (g.L.Look.bound c.args.look.now) (g.L.Look.rank c.args.look.now) (g.met.L.Look.ranked c.args.look.now) (both (by_rules c.args.first.name (carried_out (g.L.Look.bound c.args.look.now) (g.L.Look.rank c.args.look.now) (pending_term c.args.first))) (Some c.args.conds.now.items)) (was_sought c.collecting.sought) c.pop.new.self.items [] c.pop.new.self.items c.collecting.left.items c.in-Some.p c.in-Some.ensures.items (sym (append-nil c.pop.new.self.items)) c.collecting.conds.items c.collecting.invariant
+    others_put (g.L.Look.bound c.args.look.now) (g.L.Look.rank c.args.look.now) (g.met.L.Look.ranked c.args.look.now) c.args.conds.now.items (by_rules c.args.first.name (carried_out (g.L.Look.bound c.args.look.now) (g.L.Look.rank c.args.look.now) (pending_term c.args.first))) (was_sought c.collecting.sought) c.pop.new.self.items [] c.pop.new.self.items c.collecting.left.items c.in-Some.p c.in-Some.ensures.items (sym (append-nil c.pop.new.self.items)) c.collecting.conds.items c.collecting.invariant
     (name_problem (g.L.Look.bound c.args.look.now) (g.L.Look.rank c.args.look.now) (g.met.L.Look.ranked c.args.look.now) c.in-Some.p.name (rename_name c.in-Some.p.base c.in-Name.b) (pending_term c.in-Some.p) (ap (λ z. rename_term c.in-Some.p.base (term_of z)) c.in-Name.is) e) tt
 
 pub collecting-smaller-in-Continue-branch-3 : goal.collecting-smaller-in-Continue-branch-3
@@ -82,7 +78,7 @@ collecting-preserved-in-Continue-branch-3 g c =
     let l = inner_visits (g.L.Look.bound c.args.look.now) (g.L.Look.rank c.args.look.now) (g.met.L.Look.ranked c.args.look.now) c.innermost-in-Pair.result c.in-Some.p.name (rename_term c.in-Some.p.base (term_of c.deref-in-Pair.result.now)) c.innermost-in-Pair.ensures.term in
     let b = visits_pair (g.L.Look.bound c.args.look.now) (g.L.Look.rank c.args.look.now) (g.met.L.Look.ranked c.args.look.now) (rename_term c.in-Some.p.base (term_of c.deref.result.now)) (rename_term c.in-Some.p.base (term_of c.deref-in-Pair.result.now)) in
     let d : visits (g.L.Look.bound c.args.look.now) (g.L.Look.rank c.args.look.now) (pending_term c.in-Some.p) ≡ visits (g.L.Look.bound c.args.look.now) (g.L.Look.rank c.args.look.now) (pair (rename_term c.in-Some.p.base (term_of c.deref.result.now)) (rename_term c.in-Some.p.base (term_of c.deref-in-Pair.result.now))) = ap (visits (g.L.Look.bound c.args.look.now) (g.L.Look.rank c.args.look.now)) e in
-    replaced (g.L.Look.bound c.args.look.now) (g.L.Look.rank c.args.look.now) (g.met.L.Look.ranked c.args.look.now) (both (by_rules c.args.first.name (carried_out (g.L.Look.bound c.args.look.now) (g.L.Look.rank c.args.look.now) (pending_term c.args.first))) (Some c.args.conds.now.items)) (was_sought c.collecting.sought) c.pop.new.self.items qs rest c.collecting.left.items c.in-Some.p c.in-Some.ensures.items f c.collecting.conds.items c.collecting.invariant
+    others_put (g.L.Look.bound c.args.look.now) (g.L.Look.rank c.args.look.now) (g.met.L.Look.ranked c.args.look.now) c.args.conds.now.items (by_rules c.args.first.name (carried_out (g.L.Look.bound c.args.look.now) (g.L.Look.rank c.args.look.now) (pending_term c.args.first))) (was_sought c.collecting.sought) c.pop.new.self.items qs rest c.collecting.left.items c.in-Some.p c.in-Some.ensures.items f c.collecting.conds.items c.collecting.invariant
     (h ∙ ap (both (problem_of (g.L.Look.bound c.args.look.now) (g.L.Look.rank c.args.look.now) (g.met.L.Look.ranked c.args.look.now) c.innermost.result)) (sym (all_one (g.L.Look.bound c.args.look.now) (g.L.Look.rank c.args.look.now) (g.met.L.Look.ranked c.args.look.now) c.innermost-in-Pair.result))) (omega (arith, k, l, b, d), (omega (arith, k, l, b, d), tt))
 
 pub collecting-smaller-in-Continue-branch-4 : goal.collecting-smaller-in-Continue-branch-4
@@ -106,7 +102,7 @@ collecting-preserved-in-Continue-branch-4 g c =
     let b = visits_app (g.L.Look.bound c.args.look.now) (g.L.Look.rank c.args.look.now) (g.met.L.Look.ranked c.args.look.now) c.in-App.field-0 (rename_term c.in-Some.p.base (term_of c.deref-in-App.result.now)) in
     let d : visits (g.L.Look.bound c.args.look.now) (g.L.Look.rank c.args.look.now) (pending_term c.in-Some.p) ≡ visits (g.L.Look.bound c.args.look.now) (g.L.Look.rank c.args.look.now) (app c.in-App.field-0 (rename_term c.in-Some.p.base (term_of c.deref-in-App.result.now))) = ap (visits (g.L.Look.bound c.args.look.now) (g.L.Look.rank c.args.look.now)) e in
     let k = inner_visits (g.L.Look.bound c.args.look.now) (g.L.Look.rank c.args.look.now) (g.met.L.Look.ranked c.args.look.now) w c.in-Some.p.name (rename_term c.in-Some.p.base (term_of c.deref-in-App.result.now)) c.innermost-in-App.ensures.term in
-    replaced (g.L.Look.bound c.args.look.now) (g.L.Look.rank c.args.look.now) (g.met.L.Look.ranked c.args.look.now) (both (by_rules c.args.first.name (carried_out (g.L.Look.bound c.args.look.now) (g.L.Look.rank c.args.look.now) (pending_term c.args.first))) (Some c.args.conds.now.items)) (was_sought c.collecting.sought) c.pop.new.self.items (w ∷ []) rest c.collecting.left.items c.in-Some.p c.in-Some.ensures.items c.in_ok-push-in-App.ensures.items c.collecting.conds.items c.collecting.invariant
+    others_put (g.L.Look.bound c.args.look.now) (g.L.Look.rank c.args.look.now) (g.met.L.Look.ranked c.args.look.now) c.args.conds.now.items (by_rules c.args.first.name (carried_out (g.L.Look.bound c.args.look.now) (g.L.Look.rank c.args.look.now) (pending_term c.args.first))) (was_sought c.collecting.sought) c.pop.new.self.items (w ∷ []) rest c.collecting.left.items c.in-Some.p c.in-Some.ensures.items c.in_ok-push-in-App.ensures.items c.collecting.conds.items c.collecting.invariant
     (h ∙ sym (all_one (g.L.Look.bound c.args.look.now) (g.L.Look.rank c.args.look.now) (g.met.L.Look.ranked c.args.look.now) w)) (omega (arith, k, b, d), tt)
 
 pub collecting-smaller-in-Continue-branch-5 : goal.collecting-smaller-in-Continue-branch-5
@@ -134,7 +130,7 @@ collecting-preserved-in-Continue-branch-5 g c =
     let b = visits_abs (g.L.Look.bound c.args.look.now) (g.L.Look.rank c.args.look.now) (g.met.L.Look.ranked c.args.look.now) (rename_name c.in-Some.p.base B) (rename_term c.in-Some.p.base (term_of c.deref-then-ne.result.now)) in
     let d : visits (g.L.Look.bound c.args.look.now) (g.L.Look.rank c.args.look.now) (pending_term c.in-Some.p) ≡ visits (g.L.Look.bound c.args.look.now) (g.L.Look.rank c.args.look.now) (abs (rename_name c.in-Some.p.base B) (rename_term c.in-Some.p.base (term_of c.deref-then-ne.result.now))) = ap (visits (g.L.Look.bound c.args.look.now) (g.L.Look.rank c.args.look.now)) e in
     let k = inner_visits (g.L.Look.bound c.args.look.now) (g.L.Look.rank c.args.look.now) (g.met.L.Look.ranked c.args.look.now) w c.in-Some.p.name (rename_term c.in-Some.p.base (term_of c.deref-then-ne.result.now)) c.innermost-then-ne.ensures.term in
-    replaced (g.L.Look.bound c.args.look.now) (g.L.Look.rank c.args.look.now) (g.met.L.Look.ranked c.args.look.now) (both (by_rules c.args.first.name (carried_out (g.L.Look.bound c.args.look.now) (g.L.Look.rank c.args.look.now) (pending_term c.args.first))) (Some c.args.conds.now.items)) (was_sought c.collecting.sought) c.pop.new.self.items (w ∷ []) rest c.collecting.left.items c.in-Some.p c.in-Some.ensures.items c.in_ok-push-in-Abs.ensures.items c.collecting.conds.items c.collecting.invariant
+    others_put (g.L.Look.bound c.args.look.now) (g.L.Look.rank c.args.look.now) (g.met.L.Look.ranked c.args.look.now) c.args.conds.now.items (by_rules c.args.first.name (carried_out (g.L.Look.bound c.args.look.now) (g.L.Look.rank c.args.look.now) (pending_term c.args.first))) (was_sought c.collecting.sought) c.pop.new.self.items (w ∷ []) rest c.collecting.left.items c.in-Some.p c.in-Some.ensures.items c.in_ok-push-in-Abs.ensures.items c.collecting.conds.items c.collecting.invariant
     (h ∙ sym (all_one (g.L.Look.bound c.args.look.now) (g.L.Look.rank c.args.look.now) (g.met.L.Look.ranked c.args.look.now) w)) (omega (arith, k, b, d), tt)
 
 pub collecting-smaller-else-ne : goal.collecting-smaller-else-ne
@@ -145,7 +141,7 @@ unfolding name_eq
 collecting-preserved-else-ne g c =
     let B : Name = record { sort = c.in-Abs.sort; num = c.in-Abs.num } in
     let e : name_eq c.in-Some.p.name (rename_name c.in-Some.p.base B) ≡ true = search rules in
-    replaced (g.L.Look.bound c.args.look.now) (g.L.Look.rank c.args.look.now) (g.met.L.Look.ranked c.args.look.now) (both (by_rules c.args.first.name (carried_out (g.L.Look.bound c.args.look.now) (g.L.Look.rank c.args.look.now) (pending_term c.args.first))) (Some c.args.conds.now.items)) (was_sought c.collecting.sought) c.pop.new.self.items [] c.pop.new.self.items c.collecting.left.items c.in-Some.p c.in-Some.ensures.items (sym (append-nil c.pop.new.self.items)) c.collecting.conds.items c.collecting.invariant
+    others_put (g.L.Look.bound c.args.look.now) (g.L.Look.rank c.args.look.now) (g.met.L.Look.ranked c.args.look.now) c.args.conds.now.items (by_rules c.args.first.name (carried_out (g.L.Look.bound c.args.look.now) (g.L.Look.rank c.args.look.now) (pending_term c.args.first))) (was_sought c.collecting.sought) c.pop.new.self.items [] c.pop.new.self.items c.collecting.left.items c.in-Some.p c.in-Some.ensures.items (sym (append-nil c.pop.new.self.items)) c.collecting.conds.items c.collecting.invariant
     (binder_problem (g.L.Look.bound c.args.look.now) (g.L.Look.rank c.args.look.now) (g.met.L.Look.ranked c.args.look.now) c.in-Some.p.name (rename_name c.in-Some.p.base B) (rename_term c.in-Some.p.base (term_of c.in-Abs.body.value)) (pending_term c.in-Some.p) (ap (λ z. rename_term c.in-Some.p.base (term_of z)) c.in-Abs.is) e) tt
 
 pub collecting-smaller-in-Continue-branch-6 : goal.collecting-smaller-in-Continue-branch-6
@@ -158,10 +154,10 @@ collecting-preserved-in-Continue-branch-6 g c =
     let e : c.preimage_from-name.result ≡ act_name (inverse q) c.in-Some.p.name =
     c.preimage_from-name.ensures ∙ ap (λ r. act_name (inverse (map (rename_swap c.in-Some.p.base) r)) c.in-Some.p.name) c.items.ensures in
     let n : Cond = record { name = c.preimage_from-name.result; var = x } in
-    cond_taken (g.L.Look.bound c.args.look.now) (g.L.Look.rank c.args.look.now) (g.met.L.Look.ranked c.args.look.now) (both (by_rules c.args.first.name (carried_out (g.L.Look.bound c.args.look.now) (g.L.Look.rank c.args.look.now) (pending_term c.args.first))) (Some c.args.conds.now.items)) (was_sought c.collecting.sought) c.pop.new.self.items [] c.pop.new.self.items c.collecting.left.items c.in-Some.p c.in-Some.ensures.items (sym (append-nil c.pop.new.self.items)) c.collecting.conds.items c.collecting.invariant n c.push-in-None.new.self.items
+    cond_put (g.L.Look.bound c.args.look.now) (g.L.Look.rank c.args.look.now) (g.met.L.Look.ranked c.args.look.now) c.args.conds.now.items (by_rules c.args.first.name (carried_out (g.L.Look.bound c.args.look.now) (g.L.Look.rank c.args.look.now) (pending_term c.args.first))) (was_sought c.collecting.sought) c.pop.new.self.items [] c.pop.new.self.items c.collecting.left.items c.in-Some.p c.in-Some.ensures.items (sym (append-nil c.pop.new.self.items)) c.collecting.conds.items c.collecting.invariant refl n c.push-in-None.new.self.items
     (unbound_problem (g.L.Look.bound c.args.look.now) (g.L.Look.rank c.args.look.now) (g.met.L.Look.ranked c.args.look.now) c.in-Some.p.name q x (pending_term c.in-Some.p) (ap (λ z. rename_term c.in-Some.p.base (term_of z)) c.in-Susp.is) c.in-None.ensures
     ∙ ap (λ (b : Name). let m : Cond = record { name = b; var = x } in Some (m ∷ [])) (sym e))
-    refl c.in_ok-push-in-None.ensures.items
+    c.in_ok-push-in-None.ensures.items
 
 pub collecting-smaller-then-is_sought : goal.collecting-smaller-then-is_sought
 collecting-smaller-then-is_sought g c = fewer (g.L.Look.bound c.args.look.now) (g.L.Look.rank c.args.look.now) (g.met.L.Look.ranked c.args.look.now) c.pop.new.self.items [] c.pop.new.self.items c.collecting.left.items c.in-Some.p c.in-Some.ensures.items (sym (append-nil c.pop.new.self.items)) (visits_some (g.L.Look.bound c.args.look.now) (g.L.Look.rank c.args.look.now) (g.met.L.Look.ranked c.args.look.now) (pending_term c.in-Some.p))
@@ -183,7 +179,7 @@ collecting-preserved-then-is_sought g c =
     ∙ ap (λ b. problem (g.L.Look.bound c.args.look.now) (g.L.Look.rank c.args.look.now) (g.met.L.Look.ranked c.args.look.now) (act_name (inverse d.swaps.now) b) u) (sym e) ∙ sym v in
     let l : visits (g.L.Look.bound c.args.look.now) (g.L.Look.rank c.args.look.now) (pending_term c.in-Some.p) ≡ visits (g.L.Look.bound c.args.look.now) (g.L.Look.rank c.args.look.now) (susp [] x) =
     ap (λ z. visits (g.L.Look.bound c.args.look.now) (g.L.Look.rank c.args.look.now) (rename_term c.in-Some.p.base (term_of z))) c.in-Susp.is ∙ visits_swapped (g.L.Look.bound c.args.look.now) (g.L.Look.rank c.args.look.now) (g.met.L.Look.ranked c.args.look.now) q x in
-    left_out (g.L.Look.bound c.args.look.now) (g.L.Look.rank c.args.look.now) (g.met.L.Look.ranked c.args.look.now) (both (by_rules c.args.first.name (carried_out (g.L.Look.bound c.args.look.now) (g.L.Look.rank c.args.look.now) (pending_term c.args.first))) (Some c.args.conds.now.items)) (was_sought c.collecting.sought) c.pop.new.self.items [] c.pop.new.self.items c.collecting.left.items c.in-Some.p c.in-Some.ensures.items (sym (append-nil c.pop.new.self.items)) c.collecting.conds.items c.collecting.invariant n (sym c.is_sought.ensures ∙ c.if-is_sought.true) h l refl
+    out_put (g.L.Look.bound c.args.look.now) (g.L.Look.rank c.args.look.now) (g.met.L.Look.ranked c.args.look.now) c.args.conds.now.items (by_rules c.args.first.name (carried_out (g.L.Look.bound c.args.look.now) (g.L.Look.rank c.args.look.now) (pending_term c.args.first))) (was_sought c.collecting.sought) c.pop.new.self.items [] c.pop.new.self.items c.collecting.left.items c.in-Some.p c.in-Some.ensures.items (sym (append-nil c.pop.new.self.items)) c.collecting.conds.items c.collecting.invariant refl n (sym c.is_sought.ensures ∙ c.if-is_sought.true) h l
 
 pub collecting-smaller : goal.collecting-smaller
 collecting-smaller g c =
@@ -218,14 +214,20 @@ collecting-preserved g c =
     let m : in_var (g.L.Look.bound c.args.look.now) (g.L.Look.rank c.args.look.now) (g.met.L.Look.ranked c.args.look.now) n ≡ problem_of (g.L.Look.bound c.args.look.now) (g.L.Look.rank c.args.look.now) (g.met.L.Look.ranked c.args.look.now) w = v ∙ ap₂ (problem (g.L.Look.bound c.args.look.now) (g.L.Look.rank c.args.look.now) (g.met.L.Look.ranked c.args.look.now)) (sym c.bound.ensures.name) (sym c.bound.ensures.term) in
     let a = visits_bound (g.L.Look.bound c.args.look.now) (g.L.Look.rank c.args.look.now) (g.met.L.Look.ranked c.args.look.now) [] x d.swaps.now u c.in-Some-look.ensures in
     let k : visits_of (g.L.Look.bound c.args.look.now) (g.L.Look.rank c.args.look.now) (g.met.L.Look.ranked c.args.look.now) w ≡ visits (g.L.Look.bound c.args.look.now) (g.L.Look.rank c.args.look.now) u = ap (visits (g.L.Look.bound c.args.look.now) (g.L.Look.rank c.args.look.now)) c.bound.ensures.term in
-    one_sought (g.L.Look.bound c.args.look.now) (g.L.Look.rank c.args.look.now) (g.met.L.Look.ranked c.args.look.now) (both (by_rules c.args.first.name (carried_out (g.L.Look.bound c.args.look.now) (g.L.Look.rank c.args.look.now) (pending_term c.args.first))) (Some c.args.conds.now.items)) (was_sought c.collecting.sought) (was_sought c.seek.new.sought) rest c.collecting.conds.items n c.in_ok-seek-in-Some-look.ensures.sought
-    (λ o t. inr (subst (IsToldBelow (g.L.Look.bound c.args.look.now) (g.L.Look.rank c.args.look.now) (g.met.L.Look.ranked c.args.look.now) o (visits_below (g.L.Look.bound c.args.look.now) (g.L.Look.rank c.args.look.now) (g.met.L.Look.ranked c.args.look.now) n)) (sym c.in_ok-push-in-Some-look.ensures.items) (behind (g.L.Look.bound c.args.look.now) (g.L.Look.rank c.args.look.now) (g.met.L.Look.ranked c.args.look.now) o (visits_below (g.L.Look.bound c.args.look.now) (g.L.Look.rank c.args.look.now) (g.met.L.Look.ranked c.args.look.now) n) c.pop.new.self.items (w ∷ []) (inl (omega (arith, a, k), ap (λ y. tells y o) (sym m) ∙ t)))))
-    (replaced (g.L.Look.bound c.args.look.now) (g.L.Look.rank c.args.look.now) (g.met.L.Look.ranked c.args.look.now) (both (by_rules c.args.first.name (carried_out (g.L.Look.bound c.args.look.now) (g.L.Look.rank c.args.look.now) (pending_term c.args.first))) (Some c.args.conds.now.items)) (was_sought c.collecting.sought) c.pop.new.self.items (w ∷ []) rest c.collecting.left.items c.in-Some.p c.in-Some.ensures.items c.in_ok-push-in-Some-look.ensures.items c.collecting.conds.items c.collecting.invariant (h ∙ m ∙ sym (all_one (g.L.Look.bound c.args.look.now) (g.L.Look.rank c.args.look.now) (g.met.L.Look.ranked c.args.look.now) w)) (omega (arith, a, k, l), tt))
+    sought_put (g.L.Look.bound c.args.look.now) (g.L.Look.rank c.args.look.now) (g.met.L.Look.ranked c.args.look.now) c.args.conds.now.items (by_rules c.args.first.name (carried_out (g.L.Look.bound c.args.look.now) (g.L.Look.rank c.args.look.now) (pending_term c.args.first))) (was_sought c.collecting.sought) (was_sought c.seek.new.sought) rest c.collecting.conds.items n c.in_ok-seek-in-Some-look.ensures.sought
+    (λ o t. subst (IsToldBelow (g.L.Look.bound c.args.look.now) (g.L.Look.rank c.args.look.now) (g.met.L.Look.ranked c.args.look.now) o (visits_below (g.L.Look.bound c.args.look.now) (g.L.Look.rank c.args.look.now) (g.met.L.Look.ranked c.args.look.now) n)) (sym c.in_ok-push-in-Some-look.ensures.items) (behind (g.L.Look.bound c.args.look.now) (g.L.Look.rank c.args.look.now) (g.met.L.Look.ranked c.args.look.now) o (visits_below (g.L.Look.bound c.args.look.now) (g.L.Look.rank c.args.look.now) (g.met.L.Look.ranked c.args.look.now) n) c.pop.new.self.items (w ∷ []) (inl (omega (arith, a, k), ap (λ y. tells y o) (sym m) ∙ t))))
+    (others_put (g.L.Look.bound c.args.look.now) (g.L.Look.rank c.args.look.now) (g.met.L.Look.ranked c.args.look.now) c.args.conds.now.items (by_rules c.args.first.name (carried_out (g.L.Look.bound c.args.look.now) (g.L.Look.rank c.args.look.now) (pending_term c.args.first))) (was_sought c.collecting.sought) c.pop.new.self.items (w ∷ []) rest c.collecting.left.items c.in-Some.p c.in-Some.ensures.items c.in_ok-push-in-Some-look.ensures.items c.collecting.conds.items c.collecting.invariant (h ∙ m ∙ sym (all_one (g.L.Look.bound c.args.look.now) (g.L.Look.rank c.args.look.now) (g.met.L.Look.ranked c.args.look.now) w)) (omega (arith, a, k, l), tt))
 
 -- all was taken
+pub returns-clause-behind : goal.returns-clause-behind
+returns-clause-behind g c =
+    let none : c.collecting.left.items ≡ [] = search rules in
+    all_put (g.L.Look.bound c.args.look.now) (g.L.Look.rank c.args.look.now) (g.met.L.Look.ranked c.args.look.now) c.args.conds.now.items (by_rules c.args.first.name (carried_out (g.L.Look.bound c.args.look.now) (g.L.Look.rank c.args.look.now) (pending_term c.args.first))) (was_sought c.collecting.sought) c.collecting.conds.items
+    (subst (λ (ps : List Pending). IsPutting (g.L.Look.bound c.args.look.now) (g.L.Look.rank c.args.look.now) (g.met.L.Look.ranked c.args.look.now) c.args.conds.now.items (by_rules c.args.first.name (carried_out (g.L.Look.bound c.args.look.now) (g.L.Look.rank c.args.look.now) (pending_term c.args.first))) (was_sought c.collecting.sought) ps c.collecting.conds.items) none c.collecting.invariant)
+
 pub returns-clause-added : goal.returns-clause-added
 returns-clause-added g c =
-    let x = by_rules c.args.first.name (carried_out (g.L.Look.bound c.args.look.now) (g.L.Look.rank c.args.look.now) (pending_term c.args.first)) in
     let none : c.collecting.left.items ≡ [] = search rules in
-    told_same (both x (Some c.args.conds.now.items)) (Some c.collecting.conds.items)
-    (λ e. sym (c.collecting.invariant.0 e) ∙ ap (λ (rs : List Pending). tells (both (all_left (g.L.Look.bound c.args.look.now) (g.L.Look.rank c.args.look.now) (g.met.L.Look.ranked c.args.look.now) rs) (Some c.collecting.conds.items)) e) none)
+    behind_added (by_rules c.args.first.name (carried_out (g.L.Look.bound c.args.look.now) (g.L.Look.rank c.args.look.now) (pending_term c.args.first))) c.args.conds.now.items c.collecting.conds.items
+    (all_put (g.L.Look.bound c.args.look.now) (g.L.Look.rank c.args.look.now) (g.met.L.Look.ranked c.args.look.now) c.args.conds.now.items (by_rules c.args.first.name (carried_out (g.L.Look.bound c.args.look.now) (g.L.Look.rank c.args.look.now) (pending_term c.args.first))) (was_sought c.collecting.sought) c.collecting.conds.items
+    (subst (λ (ps : List Pending). IsPutting (g.L.Look.bound c.args.look.now) (g.L.Look.rank c.args.look.now) (g.met.L.Look.ranked c.args.look.now) c.args.conds.now.items (by_rules c.args.first.name (carried_out (g.L.Look.bound c.args.look.now) (g.L.Look.rank c.args.look.now) (pending_term c.args.first))) (was_sought c.collecting.sought) ps c.collecting.conds.items) none c.collecting.invariant))
