@@ -194,9 +194,6 @@ fn forms(ahead: &mut Ahead<'_>) -> Turn
 {
     let pair = ahead.next;
     let PlainPair { left, right } = pair;
-    if head_key(left.term) != head_key(right.term) {
-        return Turn::Clash;
-    }
     match (left.term, right.term) {
         (Term::Unit, Term::Unit) => Turn::Done,
         (Term::Name(a), Term::Name(b)) => {
@@ -235,7 +232,13 @@ fn forms(ahead: &mut Ahead<'_>) -> Turn
                 Turn::Other
             }
         }
-        _ => Turn::Other,
+        _ => {
+            if head_key(left.term) == head_key(right.term) {
+                Turn::Other
+            } else {
+                Turn::Clash
+            }
+        }
     }
 }
 
