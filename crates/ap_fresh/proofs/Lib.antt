@@ -2,5 +2,5 @@ pub mod SetLemmas
 pub mod StepLemmas
 pub mod RenamedLemmas
 pub mod PendingLemmas
-mod ListingLemmas
+pub mod ListingLemmas
 mod SoughtLemmas

@@ -1,8 +1,8 @@
 -- The conditions of problems that are taken off a stack, in the order in which they come.
-use Rattle.std.proofs.Common.{◌≡◌, ◌⊎◌, ◌<◌, ℕ, Bool, true, false, true≢false, List, [], ◌∷◌, ◌++◌, inl, inr, refl, sym, ap, ap₂, ◌∙◌, subst, append_assoc, reverse}
+use Rattle.std.proofs.Common.{◌≡◌, ◌⊎◌, ℕ, Bool, true, false, true≢false, List, [], ◌∷◌, ◌++◌, inl, inr, refl, sym, ap, ◌∙◌, subst, append_assoc, reverse}
 use Rattle.std.proofs.lemmas.List.{append-nil, reverse-append}
 use Rattle.std.specs.Prelude.{None, Option, Some}
-use Rattle.ap_defs.specs.Freshness.{Conds, add_conds, both}
+use Rattle.ap_defs.specs.Freshness.{Conds, both}
 use Rattle.ap_defs.specs.declared.terms.Cond.{Cond}
 use Rattle.ap_defs.specs.declared.terms.Var.{Var}
 use Rattle.ap_perm.specs.Lookups.{Bound, IsRanked}
@@ -134,6 +134,12 @@ module _ (bound : Bound) (rank : Var → ℕ) (ranked : IsRanked bound rank) whe
       → ((w : Option Cond) → tells (in_var bound rank ranked c) w ≡ true → IsToldBelow bound rank ranked w (visits_below bound rank ranked c) ps) → IsPutting old total sought ps ds → IsPutting old total more ps ds
   sought_put old total sought more ps ds c come known now =
       (now.0, now.1, one_sought bound rank ranked total sought more ps now.0 c come (λ w t. inr (known w t)) now.2, now.3)
+
+  -- one that was sought is sought again
+  pub sought_again : (old : List Cond) (total : Option (List Cond)) (sought more : Cond → Bool) (ps : List Pending) (ds : List Cond) (c : Cond) → ((d : Cond) → more d ≡ true → (sought d ≡ true) ⊎ (d ≡ c))
+      → sought c ≡ true → IsPutting old total sought ps ds → IsPutting old total more ps ds
+  sought_again old total sought more ps ds c come s now =
+      (now.0, now.1, (now.2.0, (λ w d k t. elim (come d k) [ inl i ↦ now.2.1 w d i t | inr q ↦ now.2.1 w d (ap sought q ∙ s) t ])), now.3)
 
   -- one problem is left, and no name was sought
   pub first_put : (old : List Cond) (sought : Cond → Bool) (ps : List Pending) (p : Pending) → ps ≡ p ∷ [] → ((c : Cond) → sought c ≡ false) → IsPutting old (problem_of bound rank ranked p) sought ps old
