@@ -4,7 +4,7 @@ ghost use Rattle.std.specs.Prelude.{◌≡◌, [], IfOk, OnOk, map};
 ghost use Rattle.std.specs.Option.{option_map};
 ghost use Rattle.ap_defs.specs.Goals.{goal_over};
 ghost use Rattle.ap_defs.specs.RawTerms.{raw_of};
-ghost use Rattle.ap_trees.specs.Goals.{Atom, Equation};
+ghost use Rattle.ap_trees.specs.Goals.{Equation};
 ghost use Rattle.ap_trees.specs.Trees.{goal_of_tree, term_of, trees_of};
 ghost use Rattle.ap_scopes.specs.Owned.{goal_together, tree_together};
 ghost use Rattle.ap_scopes.specs.Resolution as spec;
@@ -67,33 +67,26 @@ fn tree_apart<'a>(tree: Tree<'a>) -> TakenTree<'a>
     TakenTree::Whole(whole)
 }
 
-/// What is left where a goal was. It takes no memory.
-fn no_goal<'a>(alloc: Global) -> GoalTree<'a>
-    ensures { goal_of_tree result ≡ Atom [] [] }
-{
-    GoalTree::Atom("", List::of(Vec::new(alloc)))
-}
-
-/// The tree of a goal, taken apart.
-fn goal_apart<'a>(alloc: Global, goal: GoalTree<'a>) -> TakenGoal<'a>
+/// The tree of a goal, taken apart. What is left where its goals were takes no memory.
+fn goal_apart<'a>(goal: GoalTree<'a>) -> TakenGoal<'a>
     ensures { goal_together result ≡ goal_of_tree goal.entry }
 {
     let mut whole = goal;
     match &mut whole {
         GoalTree::Both(left, _) => {
-            let left = mem::replace(&mut **left, no_goal(alloc));
+            let left = mem::replace(&mut **left, GoalTree::Equal(Tree::Unit, Tree::Unit));
             let GoalTree::Both(_, right) = &mut whole else {
                 unreachable!()
             };
-            let right = mem::replace(&mut **right, no_goal(alloc));
+            let right = mem::replace(&mut **right, GoalTree::Equal(Tree::Unit, Tree::Unit));
             return TakenGoal::Both(left, right);
         }
         GoalTree::Either(left, _) => {
-            let left = mem::replace(&mut **left, no_goal(alloc));
+            let left = mem::replace(&mut **left, GoalTree::Equal(Tree::Unit, Tree::Unit));
             let GoalTree::Either(_, right) = &mut whole else {
                 unreachable!()
             };
-            let right = mem::replace(&mut **right, no_goal(alloc));
+            let right = mem::replace(&mut **right, GoalTree::Equal(Tree::Unit, Tree::Unit));
             return TakenGoal::Either(left, right);
         }
         GoalTree::Equal(left, _) => {
@@ -253,7 +246,7 @@ pub fn own_goal<'a>(
     let mut layers = Vec::new(alloc);
     let mut rest = goal;
     'resolving: loop {
-        match goal_apart(alloc, rest) {
+        match goal_apart(rest) {
             TakenGoal::Both(left, right) => {
                 let left = own_front(alloc, declared, left, found)?;
                 layers.push(both_layer(alloc, left)?)?;
