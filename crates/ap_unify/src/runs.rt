@@ -7,6 +7,7 @@ ghost use Rattle.ap_store.specs.Views.{bindings_of, kinds, present, versions};
 ghost use Rattle.ap_unify.specs.Finishing.{EndsAs};
 ghost use Rattle.ap_unify.specs.Lists.{renamed_terms_in};
 ghost use Rattle.ap_unify.specs.Parts.{AreBelowBoth, AreMarksTrue, LeadsTo, Reaches, parts_equation, stage_with};
+ghost use Rattle.ap_unify.specs.Settled.{AreSettled};
 ghost use Rattle.ap_equations.specs.Plain.{plain_term};
 ghost use Rattle.ap_rules.specs.Runs.{paired, stage_under};
 ghost use Rattle.ap_rules.specs.Work.{ArePairsBelow, GoOn, IsPairBelow, ending_if, equations_left, pair_equation, problems_met, progress_if, work_stage};
@@ -14,6 +15,7 @@ ghost use Rattle.ap_rules.specs.Work.{ArePairsBelow, GoOn, IsPairBelow, ending_i
 use crate::fronts::{Front, Way};
 use crate::moved_runs::along_closures;
 use crate::parts::Ahead;
+use crate::settled::Settled;
 use crate::terms::Terms;
 use crate::ways::next_way;
 use ap_defs::memory::Memory;
@@ -28,12 +30,16 @@ fn along<'a>(
     alloc: Global,
     store: &mut Store<'a>,
     work: &mut Work<'a>,
+    settled: &mut Settled,
     first: PlainPair<'a>,
 ) -> Result<bool, Memory>
     requires below { AreBelowBoth parts_equation (present store.old).next first }
     requires marks { AreMarksTrue (bindings_of store.old) first }
+    requires settled { AreSettled (bindings_of store.old) settled.old }
     ensures stage { IfOk result (λ goes_on. LeadsTo
         (stage_with parts_equation (bindings_of store.old) first.entry work.old) (progress_if goes_on (work_stage (bindings_of store.new) work.new))) }
+    ensures settled { IfOk result (λ goes_on. goes_on ≡ true →
+        AreSettled (bindings_of store.new) settled.new) }
     ensures goes_on { OnOk result (GoOn (present store.old) work.old (present store.new) work.new) }
     ensures past { IsPrefixOf (versions store.old) (versions store.new) }
     ensures kinds { kinds store.new ≡ kinds store.old }
@@ -47,7 +53,7 @@ fn along<'a>(
         waiting: None,
     };
     'going: loop {
-        match next_way(alloc, store, work, &mut front)? {
+        match next_way(alloc, store, work, settled, &mut front)? {
             Way::End(goes_on) => return Ok(goes_on),
             Way::On => {}
         }
@@ -60,12 +66,16 @@ fn advance_by<'a>(
     alloc: Global,
     store: &mut Store<'a>,
     work: &mut Work<'a>,
+    settled: &mut Settled,
     first: ClosurePair<'a>,
 ) -> Result<bool, Memory>
-    requires { IsPairBelow (present store.old).next first }
+    requires below { IsPairBelow (present store.old).next first }
+    requires settled { AreSettled (bindings_of store.old) settled.old }
     ensures stage { IfOk result (λ goes_on. LeadsTo (stage_under (bindings_of store.old)
         (pair_equation first.entry ∷ equations_left work.old) (problems_met work.old))
         (progress_if goes_on (work_stage (bindings_of store.new) work.new))) }
+    ensures settled { IfOk result (λ goes_on. goes_on ≡ true →
+        AreSettled (bindings_of store.new) settled.new) }
     ensures goes_on { OnOk result (GoOn (present store.old) work.old (present store.new) work.new) }
     ensures past { IsPrefixOf (versions store.old) (versions store.new) }
     ensures kinds { kinds store.new ≡ kinds store.old }
@@ -73,17 +83,30 @@ fn advance_by<'a>(
     let left = Plain::of(&first.left);
     let right = Plain::of(&first.right);
     match (left, right) {
-        (Some(left), Some(right)) => along(alloc, store, work, PlainPair { left, right }),
-        _ => along_closures(alloc, store, work, first),
+        (Some(left), Some(right)) => {
+            along(alloc, store, work, settled, PlainPair { left, right })
+        },
+        _ => {
+            settled.forget();
+            along_closures(alloc, store, work, first)
+        }
     }
 }
 
 /// One or several steps: false where there is no solution.
-fn advance<'a>(alloc: Global, store: &mut Store<'a>, work: &mut Work<'a>) -> Result<bool, Memory>
+fn advance<'a>(
+    alloc: Global,
+    store: &mut Store<'a>,
+    work: &mut Work<'a>,
+    settled: &mut Settled,
+) -> Result<bool, Memory>
     requires some { 0 < vec_len work.old.equations }
     requires below { ArePairsBelow (present store.old).next work.old.equations.items }
+    requires settled { AreSettled (bindings_of store.old) settled.old }
     ensures stage { IfOk result (λ goes_on. LeadsTo (work_stage (bindings_of store.old) work.old)
         (progress_if goes_on (work_stage (bindings_of store.new) work.new))) }
+    ensures settled { IfOk result (λ goes_on. goes_on ≡ true →
+        AreSettled (bindings_of store.new) settled.new) }
     ensures goes_on { OnOk result (GoOn (present store.old) work.old (present store.new) work.new) }
     ensures past { IsPrefixOf (versions store.old) (versions store.new) }
     ensures kinds { kinds store.new ≡ kinds store.old }
@@ -91,21 +114,29 @@ fn advance<'a>(alloc: Global, store: &mut Store<'a>, work: &mut Work<'a>) -> Res
     let Some(first) = work.equations.pop() else {
         return Ok(true);
     };
-    advance_by(alloc, store, work, first)
+    advance_by(alloc, store, work, settled, first)
 }
 
 /// Rewrites equations from the first, until none is left or there is no solution.
-fn run<'a>(alloc: Global, store: &mut Store<'a>, work: &mut Work<'a>) -> Result<bool, Memory>
-    requires { ArePairsBelow (present store.old).next work.old.equations.items }
+fn run<'a>(
+    alloc: Global,
+    store: &mut Store<'a>,
+    work: &mut Work<'a>,
+    settled: &mut Settled,
+) -> Result<bool, Memory>
+    requires pairs { ArePairsBelow (present store.old).next work.old.equations.items }
+    requires settled { AreSettled (bindings_of store.old) settled.old }
     ensures reached { IfOk result (λ solved. Reaches (work_stage (bindings_of store.old) work.old)
         (progress_if solved (work_stage (bindings_of store.new) work.new))) }
     ensures left { IfOk result (λ solved. solved ≡ true → work.new.equations.items ≡ []) }
+    ensures settled { IfOk result (λ solved. solved ≡ true →
+        AreSettled (bindings_of store.new) settled.new) }
     ensures goes_on { OnOk result (GoOn (present store.old) work.old (present store.new) work.new) }
     ensures past { IsPrefixOf (versions store.old) (versions store.new) }
     ensures kinds { kinds store.new ≡ kinds store.old }
 {
     'rewriting: while !work.equations.is_empty() {
-        if !advance(alloc, store, work)? {
+        if !advance(alloc, store, work, settled)? {
             return Ok(false);
         }
     }
@@ -117,22 +148,26 @@ fn solve<'a>(
     alloc: Global,
     store: &mut Store<'a>,
     work: &mut Work<'a>,
+    settled: &mut Settled,
     pair: PlainPair<'a>,
 ) -> Result<bool, Memory>
     requires below { AreBelowBoth parts_equation (present store.old).next pair }
     requires marks { AreMarksTrue (bindings_of store.old) pair }
     requires pairs { ArePairsBelow (present store.old).next work.old.equations.items }
+    requires settled { AreSettled (bindings_of store.old) settled.old }
     ensures stage { IfOk result (λ solved. LeadsTo
         (stage_with parts_equation (bindings_of store.old) pair.entry work.old) (progress_if solved (work_stage (bindings_of store.new) work.new))) }
     ensures left { IfOk result (λ solved. solved ≡ true → work.new.equations.items ≡ []) }
+    ensures settled { IfOk result (λ solved. solved ≡ true →
+        AreSettled (bindings_of store.new) settled.new) }
     ensures goes_on { OnOk result (GoOn (present store.old) work.old (present store.new) work.new) }
     ensures past { IsPrefixOf (versions store.old) (versions store.new) }
     ensures kinds { kinds store.new ≡ kinds store.old }
 {
-    if !along(alloc, store, work, pair)? {
+    if !along(alloc, store, work, settled, pair)? {
         return Ok(false);
     }
-    run(alloc, store, work)
+    run(alloc, store, work, settled)
 }
 
 /// The term at a place of a list, which is not known to be ground.
@@ -174,6 +209,7 @@ pub fn run_places<'a>(
     ensures past { IsPrefixOf (versions store.old) (versions store.new) }
     ensures kinds { kinds store.new ≡ kinds store.old }
 {
+    let mut settled = Settled::new(alloc);
     'places: for i in 0..left.terms.len() {
         let here = term_at(left, i);
         let there = term_at(right, i);
@@ -181,7 +217,7 @@ pub fn run_places<'a>(
             left: here,
             right: there,
         };
-        if !solve(alloc, store, work, pair)? {
+        if !solve(alloc, store, work, &mut settled, pair)? {
             return Ok(false);
         }
     }

@@ -1,0 +1,216 @@
+-- Parts that stand for one term already, so that nothing is left of their equation.
+use Rattle.std.proofs.Common.{◌≡◌, ◌==◌, ℕ, zero, suc, true, false, List, [], ◌∷◌, ◌++◌, map, refl, sym, subst, ap, ap₂, ◌∙◌, append-nil, arith}
+use Rattle.std.proofs.lemmas.Bool.Decides.{nat_tests}
+use Rattle.std.specs.Prelude.{Option, if◌then◌else◌}
+use Rattle.ap_defs.specs.Freshness.{var_eq}
+use Rattle.ap_defs.specs.Permutations.{disagreement, name_eq, swap_of}
+use Rattle.ap_defs.specs.Substitution.{Binding, Equation, Problem, under, ◌#◌, ◌≐◌}
+use Rattle.ap_defs.specs.Terms.{NominalTerm, abs, act_term, app, name, pair, susp, unit}
+use Rattle.ap_defs.specs.Unification.{Progress, Rule, Stage, apply_rule, clash, done, failed, fresh_for, next, replace, rule}
+use Rattle.ap_defs.specs.declared.terms.Name.{Name}
+use Rattle.ap_defs.specs.declared.terms.Var.{Var}
+use Rattle.ap_equations.specs.Plain.{plain_term}
+use Rattle.ap_equations.specs.declared.plain.PlainPair.{PlainPair}
+use Rattle.ap_rules.proofs.SuspensionLemmas.{form_under}
+use Rattle.ap_rules.specs.Runs.{equation_under, problem_under, stage_under}
+use Rattle.ap_rules.specs.Work.{equations_left, problems_met}
+use Rattle.ap_rules.specs.declared.pairs.Work.{Work}
+use Rattle.ap_store.specs.Heads.{HasForm}
+use Rattle.ap_theory.proofs.DisagreementLemmas.{disagreement_none}
+use Rattle.ap_theory.proofs.PermutationLemmas.{name_eq_itself, name_eq_same}
+use Rattle.ap_theory.proofs.TermLemmas.{var_same}
+use Rattle.ap_unify.proofs.AlikeLemmas.{alike_itself}
+use Rattle.ap_unify.specs.Parts.{IsReached, IsRuleFor, LeadsTo, PairReading, parts_equation, rule_of, stage_of, waiting_equations}
+use Rattle.ap_unify.specs.Settled.{AreSame, AreSettled, MakesSame}
+use Rattle.ap_unify.specs.declared.settled.Settled.{Settled}
+use Rattle.ap_unify.specs.declared.parts.Ahead.{Ahead}
+use Rattle.ap_unify.specs.declared.parts.Turn.{Turn}
+use Rattle.ap_unify.specs.declared.parts.Turn.TheVariants as turns
+
+none_next : (r : Stage) → failed ≡ next r → ⊥
+none_next r e = cc
+
+some_none : (p : Problem) → p ∷ [] ≡ [] → ⊥
+some_none p e = cc
+
+same_number : (m n : ℕ) → (m == n) ≡ true → m ≡ n
+same_number m n h = grind (arith, nat_tests)
+
+number_itself : (n : ℕ) → (n == n) ≡ true
+number_itself n = grind (arith, nat_tests)
+
+var_itself : (x : Var) → var_eq x x ≡ true
+var_itself x = number_itself x.num
+
+equations_in : Progress → List Equation
+equations_in (next r) = r.equations
+equations_in _ = []
+
+problems_in : Progress → List Problem
+problems_in (next r) = r.problems
+problems_in _ = []
+
+-- both sides of each equation are the same
+abbrev AllEqual : List Equation → Type 0
+AllEqual [] = Unit {0}
+AllEqual ((t ≐ u) ∷ es) = (t ≡ u) × AllEqual es
+
+module _ (s : List Binding) where
+  abbrev of_all : List Equation → Stage
+  of_all es = record { equations = es; problems = []; bindings = s }
+
+  abbrev swapped : Name → Name → NominalTerm → NominalTerm → Rule
+  swapped a b u t = if a.sort == b.sort then replace ((t ≐ act_term (swap_of a b ∷ []) u) ∷ []) ((a # u) ∷ []) else clash
+
+  -- what two forms reduce to without problems makes them the same, once its sides are
+  by_rule : (t u : NominalTerm) → HasForm t → HasForm u → (es : List Equation) → apply_rule (rule t u) [] [] s ≡ next (of_all es) → AllEqual es → t ≡ u
+  by_rule unit unit h k es e q = refl
+  by_rule unit (name b) h k es e q = absurd (none_next (of_all es) e)
+  by_rule unit (pair v z) h k es e q = absurd (none_next (of_all es) e)
+  by_rule unit (app g z) h k es e q = absurd (none_next (of_all es) e)
+  by_rule unit (abs b z) h k es e q = absurd (none_next (of_all es) e)
+  by_rule (name a) unit h k es e q = absurd (none_next (of_all es) e)
+  by_rule (name a) (name b) h k es e q =
+      (elim (name_eq a b) as (λ v. name_eq a b ≡ v → apply_rule (if v then replace [] [] else clash) [] [] s ≡ next (of_all es) → name a ≡ name b) [
+        | true ↦ λ g i. ap name (name_eq_same a b g)
+        | false ↦ λ g i. absurd (none_next (of_all es) i)
+      ] refl) e
+  by_rule (name a) (pair v z) h k es e q = absurd (none_next (of_all es) e)
+  by_rule (name a) (app g z) h k es e q = absurd (none_next (of_all es) e)
+  by_rule (name a) (abs b z) h k es e q = absurd (none_next (of_all es) e)
+  by_rule (pair t u) unit h k es e q = absurd (none_next (of_all es) e)
+  by_rule (pair t u) (name b) h k es e q = absurd (none_next (of_all es) e)
+  by_rule (pair t u) (pair v w) h k es e q =
+      let l : AllEqual ((t ≐ v) ∷ (u ≐ w) ∷ []) = subst AllEqual (sym (ap equations_in e)) q in
+      ap₂ pair l.0 l.1.0
+  by_rule (pair t u) (app g z) h k es e q = absurd (none_next (of_all es) e)
+  by_rule (pair t u) (abs b z) h k es e q = absurd (none_next (of_all es) e)
+  by_rule (app f t) unit h k es e q = absurd (none_next (of_all es) e)
+  by_rule (app f t) (name b) h k es e q = absurd (none_next (of_all es) e)
+  by_rule (app f t) (pair v z) h k es e q = absurd (none_next (of_all es) e)
+  by_rule (app f t) (app g u) h k es e q =
+      (elim (f == g) as (λ v. (f == g) ≡ v → apply_rule (if v then replace ((t ≐ u) ∷ []) [] else clash) [] [] s ≡ next (of_all es) → app f t ≡ app g u) [
+        | true ↦ λ i j. let l : AllEqual ((t ≐ u) ∷ []) = subst AllEqual (sym (ap equations_in j)) q in ap₂ app (same_number f g i) l.0
+        | false ↦ λ i j. absurd (none_next (of_all es) j)
+      ] refl) e
+  by_rule (app f t) (abs b z) h k es e q = absurd (none_next (of_all es) e)
+  by_rule (abs a t) unit h k es e q = absurd (none_next (of_all es) e)
+  by_rule (abs a t) (name b) h k es e q = absurd (none_next (of_all es) e)
+  by_rule (abs a t) (pair v z) h k es e q = absurd (none_next (of_all es) e)
+  by_rule (abs a t) (app g z) h k es e q = absurd (none_next (of_all es) e)
+  by_rule (abs a t) (abs b u) h k es e q =
+      (elim (name_eq a b) as (λ v. name_eq a b ≡ v → apply_rule (if v then replace ((t ≐ u) ∷ []) [] else swapped a b u t) [] [] s ≡ next (of_all es) → abs a t ≡ abs b u) [
+        | true ↦ λ i j. let l : AllEqual ((t ≐ u) ∷ []) = subst AllEqual (sym (ap equations_in j)) q in ap₂ abs (name_eq_same a b i) l.0
+        | false ↦ λ i. elim (a.sort == b.sort) as (λ v. apply_rule (if v then replace ((t ≐ act_term (swap_of a b ∷ []) u) ∷ []) ((a # u) ∷ []) else clash) [] [] s ≡ next (of_all es) → abs a t ≡ abs b u) [
+          | true ↦ λ j. absurd (some_none (a # u) (ap problems_in j))
+          | false ↦ λ j. absurd (none_next (of_all es) j)
+        ]
+      ] refl) e
+  by_rule unit (susp q y) h k es e z = absurd k
+  by_rule (name a) (susp q y) h k es e z = absurd k
+  by_rule (pair t u) (susp q y) h k es e z = absurd k
+  by_rule (app f t) (susp q y) h k es e z = absurd k
+  by_rule (abs a t) (susp q y) h k es e z = absurd k
+  by_rule (susp p x) u h k es e z = absurd h
+
+  pub makes_same : (turn : Turn) (f : Ahead) (p : PlainPair) → HasForm (plain_term p.left) → HasForm (plain_term p.right) → IsRuleFor parts_equation turn f s s (rule_of parts_equation s p)
+      → MakesSame s turn f p
+  makes_same turns.Clash f p h k r = tt
+  makes_same turns.Other f p h k r = tt
+  makes_same turns.Done f p h k r =
+      by_rule (under s (plain_term p.left)) (under s (plain_term p.right)) (form_under s (plain_term p.left) h) (form_under s (plain_term p.right) k) [] (sym (r [] [])) tt
+  makes_same turns.On f p h k r = λ l.
+      by_rule (under s (plain_term p.left)) (under s (plain_term p.right)) (form_under s (plain_term p.left) h) (form_under s (plain_term p.right) k)
+      (equation_under s (parts_equation f.next) ∷ []) (sym (r [] [])) (l, tt)
+  makes_same turns.Both f p h k r = λ l m.
+      by_rule (under s (plain_term p.left)) (under s (plain_term p.right)) (form_under s (plain_term p.left) h) (form_under s (plain_term p.right) k)
+      (equation_under s (parts_equation f.next) ∷ equation_under s (parts_equation f.later) ∷ []) (sym (r [] [])) (l, (m, tt))
+
+  -- in the place of parts that stand for the same
+  pub makes_same_for : (turn : Turn) (f : Ahead) (p q : PlainPair) → under s (plain_term q.left) ≡ under s (plain_term p.left) → under s (plain_term q.right) ≡ under s (plain_term p.right)
+      → MakesSame s turn f q → MakesSame s turn f p
+  makes_same_for turns.Clash f p q h k m = tt
+  makes_same_for turns.Other f p q h k m = tt
+  makes_same_for turns.Done f p q h k m = sym h ∙ m ∙ k
+  makes_same_for turns.On f p q h k m = λ l. sym h ∙ m l ∙ k
+  makes_same_for turns.Both f p q h k m = λ l n. sym h ∙ m l n ∙ k
+
+  abbrev equal_in_front : NominalTerm → NominalTerm → List Equation → List Problem → Stage
+  equal_in_front t u es ps = record { equations = (t ≐ u) ∷ es; problems = ps; bindings = s }
+
+  abbrev without : List Equation → List Problem → Stage
+  without es ps = record { equations = es; problems = ps; bindings = s }
+
+  then_steps : (n m : ℕ) (a b : Stage) (q : Progress) → IsReached n a (next b) → IsReached m b q → (k : ℕ) × IsReached k a q
+  then_steps zero m a b q e k = (suc m, (b, e, k))
+  then_steps (suc n) m a b q (o, e, h) k = let l = then_steps n m o b q h k in (suc l.0, (o, e, l.1))
+
+  -- nothing is left of an equation of a term with itself
+  itself : (t : NominalTerm) (es : List Equation) (ps : List Problem) → (n : ℕ) × IsReached n (equal_in_front t t es ps) (next (without es ps))
+  itself unit es ps = (0, ap (λ xs. next (without es xs)) (append-nil ps))
+  itself (name a) es ps =
+      (0, ap (λ b. apply_rule (if b then replace [] [] else clash) es ps s) (name_eq_itself a) ∙ ap (λ xs. next (without es xs)) (append-nil ps))
+  itself (pair t u) es ps =
+      let a = itself t ((u ≐ u) ∷ es) ps in
+      let b = itself u es ps in
+      let c = then_steps a.0 b.0 (equal_in_front t t ((u ≐ u) ∷ es) ps) (equal_in_front u u es ps) (next (without es ps)) a.1 b.1 in
+      (suc c.0, (equal_in_front t t ((u ≐ u) ∷ es) ps, ap (λ xs. next (equal_in_front t t ((u ≐ u) ∷ es) xs)) (append-nil ps), c.1))
+  itself (app f t) es ps =
+      let a = itself t es ps in
+      (suc a.0, (equal_in_front t t es ps, ap (λ b. apply_rule (if b then replace ((t ≐ t) ∷ []) [] else clash) es ps s) (number_itself f) ∙ ap (λ xs. next (equal_in_front t t es xs)) (append-nil ps), a.1))
+  itself (abs c t) es ps =
+      let a = itself t es ps in
+      (suc a.0, (equal_in_front t t es ps, ap (λ b. apply_rule (if b then replace ((t ≐ t) ∷ []) [] else swapped c c t t) es ps s) (name_eq_itself c) ∙ ap (λ xs. next (equal_in_front t t es xs)) (append-nil ps), a.1))
+  itself (susp p x) es ps =
+      (0, rw (var_itself x) (ap (λ (cs : List Name). next (without es (ps ++ map (fresh_for x) cs))) (disagreement_none p p (λ c. refl)) ∙ ap (λ xs. next (without es xs)) (append-nil ps)))
+
+  pub settled_way : (p : PlainPair) (o : Option PlainPair) (w : Work) → AreSame s p
+      → LeadsTo (stage_of parts_equation s p o w) (next (stage_under s (waiting_equations parts_equation o ++ equations_left w) (problems_met w)))
+  settled_way p o w h =
+      let es = map (equation_under s) (waiting_equations parts_equation o ++ equations_left w) in
+      let ps = map (problem_under s) (problems_met w) in
+      let t = under s (plain_term p.left) in
+      let a = itself t es ps in
+      subst (λ (u : NominalTerm). LeadsTo (equal_in_front t u es ps) (next (without es ps))) h (a.0, next (without es ps), a.1, alike_itself (next (without es ps)))
+
+right_of : Equation → NominalTerm
+right_of (t ≐ u) = u
+
+-- the right side of the last equation
+last_right : List Equation → NominalTerm
+last_right [] = unit
+last_right (e ∷ []) = right_of e
+last_right (e ∷ (f ∷ es)) = last_right (f ∷ es)
+
+-- what stands for one term does so after a step
+abbrev pub StaysSame : List Binding → List Binding → Type 0
+StaysSame s r = (t u : NominalTerm) → under s t ≡ under s u → under r t ≡ under r u
+
+module _ (q : PairReading) (s r : List Binding) (f : Ahead) (x : Rule) where
+  -- equations in front of one whose sides are the same
+  stay : (new : List Equation) → ((es : List Equation) (ps : List Problem) → next (stage_under r (new ++ es) ps) ≡ apply_rule x (map (equation_under s) es) (map (problem_under s) ps) s)
+      → (t u : NominalTerm) → under s t ≡ under s u → last_right (map (equation_under r) (new ++ (t ≐ u) ∷ [])) ≡ last_right (map (equation_under r) (new ++ (t ≐ t) ∷ []))
+  unfolding equations_in
+  stay new h t u e =
+      ap (λ p. last_right (equations_in p))
+      (h ((t ≐ u) ∷ []) [] ∙ ap (λ v. apply_rule x ((under s t ≐ v) ∷ []) [] s) (sym e) ∙ sym (h ((t ≐ t) ∷ []) []))
+
+  pub done_same : IsRuleFor q turns.Done f s r x → StaysSame s r
+  unfolding last_right right_of
+  done_same h t u e = sym (stay [] h t u e)
+
+  pub on_same : IsRuleFor q turns.On f s r x → StaysSame s r
+  unfolding last_right right_of
+  on_same h t u e = sym (stay (q f.next ∷ []) h t u e)
+
+  pub both_same : IsRuleFor q turns.Both f s r x → StaysSame s r
+  unfolding last_right right_of
+  both_same h t u e = sym (stay (q f.next ∷ q f.later ∷ []) h t u e)
+
+pub settled_stay : (s r : List Binding) (k : Settled) → StaysSame s r → AreSettled s k → AreSettled r k
+settled_stay s r k f h x y e = f (susp [] x) (susp [] y) (h x y e)
+
+-- two parts that stand for one variable
+pub same_variable : (s : List Binding) (p : PlainPair) (x y : Var) (t u : NominalTerm) → under s t ≡ under s (plain_term p.left) → under s u ≡ under s (plain_term p.right) → t ≡ susp [] x → u ≡ susp [] y
+    → (x.num == y.num) ≡ true → AreSame s p
+same_variable s p x y t u h k e f g = sym h ∙ ap (under s) (e ∙ ap (susp []) (var_same x y g) ∙ sym f) ∙ k
