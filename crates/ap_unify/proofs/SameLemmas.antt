@@ -1,7 +1,11 @@
 -- Parts that stand for one term already, so that nothing is left of their equation.
-use Rattle.std.proofs.Common.{◌≡◌, ◌==◌, ℕ, zero, suc, true, false, List, [], ◌∷◌, ◌++◌, map, refl, sym, subst, ap, ap₂, ◌∙◌, append-nil, arith}
+use Rattle.std.proofs.Common.{◌≡◌, ◌==◌, ◌&&◌, ℕ, zero, suc, true, false, List, [], ◌∷◌, ◌++◌, map, refl, sym, subst, ap, ap₂, ◌∙◌, append-nil, arith}
 use Rattle.std.proofs.lemmas.Bool.Decides.{nat_tests}
+use Rattle.std.specs.BTreeSet.{contains}
+use Rattle.std.specs.Ordering.{is_eq, nat_cmp, ordering_then}
 use Rattle.std.specs.Prelude.{Option, if◌then◌else◌}
+use Rattle.std.specs.declared.cmp.Ordering.{Ordering}
+use Rattle.std.specs.declared.cmp.Ordering.TheVariants.{Less, Equal, Greater}
 use Rattle.ap_defs.specs.Freshness.{var_eq}
 use Rattle.ap_defs.specs.Permutations.{disagreement, name_eq, swap_of}
 use Rattle.ap_defs.specs.Substitution.{Binding, Equation, Problem, under, ◌#◌, ◌≐◌}
@@ -16,12 +20,13 @@ use Rattle.ap_rules.specs.Runs.{equation_under, problem_under, stage_under}
 use Rattle.ap_rules.specs.Work.{equations_left, problems_met}
 use Rattle.ap_rules.specs.declared.pairs.Work.{Work}
 use Rattle.ap_store.specs.Heads.{HasForm}
+use Rattle.ap_theory.proofs.BooleanLemmas.{and_left, and_right}
 use Rattle.ap_theory.proofs.DisagreementLemmas.{disagreement_none}
 use Rattle.ap_theory.proofs.PermutationLemmas.{name_eq_itself, name_eq_same}
 use Rattle.ap_theory.proofs.TermLemmas.{var_same}
 use Rattle.ap_unify.proofs.AlikeLemmas.{alike_itself}
 use Rattle.ap_unify.specs.Parts.{IsReached, IsRuleFor, LeadsTo, PairReading, parts_equation, rule_of, stage_of, waiting_equations}
-use Rattle.ap_unify.specs.Settled.{AreSame, AreSettled, MakesSame}
+use Rattle.ap_unify.specs.Settled.{AllSame, AreSame, AreSettled, MakesSame, pair_cmp}
 use Rattle.ap_unify.specs.declared.settled.Settled.{Settled}
 use Rattle.ap_unify.specs.declared.parts.Ahead.{Ahead}
 use Rattle.ap_unify.specs.declared.parts.Turn.{Turn}
@@ -214,3 +219,50 @@ settled_stay s r k f h x y e = f (susp [] x) (susp [] y) (h x y e)
 pub same_variable : (s : List Binding) (p : PlainPair) (x y : Var) (t u : NominalTerm) → under s t ≡ under s (plain_term p.left) → under s u ≡ under s (plain_term p.right) → t ≡ susp [] x → u ≡ susp [] y
     → (x.num == y.num) ≡ true → AreSame s p
 same_variable s p x y t u h k e f g = sym h ∙ ap (under s) (e ∙ ap (susp []) (var_same x y g) ∙ sym f) ∙ k
+
+at_number : (m n : ℕ) → is_eq (nat_cmp m n) ≡ (m == n)
+at_number m n = grind (arith, nat_tests)
+
+eq_then : (a b : Ordering) → is_eq (ordering_then a b) ≡ (is_eq a && is_eq b)
+eq_then Less b = refl
+eq_then Equal b = refl
+eq_then Greater b = refl
+
+-- keys are the same of the same variables
+same_variables : (x y a b : Var) → is_eq (pair_cmp (x.num, y.num) (a.num, b.num)) ≡ true → (x ≡ a) × (y ≡ b)
+same_variables x y a b h =
+    let e : ((x.num == a.num) && (y.num == b.num)) ≡ true = sym (eq_then (nat_cmp x.num a.num) (nat_cmp y.num b.num) ∙ ap₂ ◌&&◌ (at_number x.num a.num) (at_number y.num b.num)) ∙ h in
+    (var_same x a (and_left (x.num == a.num) (y.num == b.num) e), var_same y b (and_right (x.num == a.num) (y.num == b.num) e))
+
+-- one more pair of variables that stand for one term
+pub one_settled : (s : List Binding) (k m : Settled) (x y : Var)
+    → ((q : ℕ × ℕ) → contains pair_cmp m.pairs q ≡ (if is_eq (pair_cmp (x.num, y.num) q) then true else contains pair_cmp k.pairs q))
+    → under s (susp [] x) ≡ under s (susp [] y) → AreSettled s k → AreSettled s m
+one_settled s k m x y put h old a b e =
+    (elim (is_eq (pair_cmp (x.num, y.num) (a.num, b.num))) as (λ v. is_eq (pair_cmp (x.num, y.num) (a.num, b.num)) ≡ v → (if v then true else contains pair_cmp k.pairs (a.num, b.num)) ≡ true → under s (susp [] a) ≡ under s (susp [] b)) [
+      | true ↦ λ i j. let g = same_variables x y a b i in ap (λ z. under s (susp [] z)) (sym g.0) ∙ h ∙ ap (λ z. under s (susp [] z)) g.1
+      | false ↦ λ i j. old a b j
+    ] refl) (sym (put (a.num, b.num)) ∙ e)
+
+module _ (s : List Binding) (p : PlainPair) where
+  all_more : (ps : List PlainPair) → AllSame s ps → AreSame s p → AllSame s (ps ++ p ∷ [])
+  all_more [] h k = (k, tt)
+  all_more (q ∷ ps) h k = (h.0, all_more ps h.1 k)
+
+  all_front : (ps : List PlainPair) → AllSame s (ps ++ p ∷ []) → AllSame s ps × AreSame s p
+  all_front [] h = (tt, h.0)
+  all_front (q ∷ ps) h = let k = all_front ps h.1 in ((h.0, k.0), k.1)
+
+-- One turn of a look: what it leaves, and what waits.
+module _ (s : List Binding) (first here : PlainPair) (f : Ahead) (old new : List PlainPair) (known : AreSame s here → AllSame s old → AreSame s first) where
+  pub looked_on : MakesSame s turns.On f here → AreSame s f.next → AllSame s old → AreSame s first
+  looked_on m h k = known (m h) k
+
+  pub looked_both : MakesSame s turns.Both f here → new ≡ old ++ f.later ∷ [] → AreSame s f.next → AllSame s new → AreSame s first
+  looked_both m e h k = let l = all_front s f.later old (subst (AllSame s) e k) in known (m h l.1) l.0
+
+  pub looked_done : MakesSame s turns.Done f here → (other : PlainPair) → old ≡ new ++ other ∷ [] → AreSame s other → AllSame s new → AreSame s first
+  looked_done m other e h k = known m (subst (AllSame s) (sym e) (all_more s other new k h))
+
+  pub looked_all : MakesSame s turns.Done f here → old ≡ [] → AreSame s first
+  looked_all m e = known m (subst (AllSame s) (sym e) tt)
