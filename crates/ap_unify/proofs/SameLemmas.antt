@@ -76,10 +76,11 @@ module _ (s : List Binding) where
   by_rule unit (abs b z) h k es e q = absurd (none_next (of_all es) e)
   by_rule (name a) unit h k es e q = absurd (none_next (of_all es) e)
   by_rule (name a) (name b) h k es e q =
-      (elim (name_eq a b) as (λ v. name_eq a b ≡ v → apply_rule (if v then replace [] [] else clash) [] [] s ≡ next (of_all es) → name a ≡ name b) [
-        | true ↦ λ g i. ap name (name_eq_same a b g)
+      let l : a ≡ b = (elim (name_eq a b) as (λ v. name_eq a b ≡ v → apply_rule (if v then replace [] [] else clash) [] [] s ≡ next (of_all es) → a ≡ b) [
+        | true ↦ λ g i. name_eq_same a b g
         | false ↦ λ g i. absurd (none_next (of_all es) i)
-      ] refl) e
+      ] refl) e in
+      ap name l
   by_rule (name a) (pair v z) h k es e q = absurd (none_next (of_all es) e)
   by_rule (name a) (app g z) h k es e q = absurd (none_next (of_all es) e)
   by_rule (name a) (abs b z) h k es e q = absurd (none_next (of_all es) e)
@@ -217,8 +218,8 @@ settled_stay s r k f h x y e = f (susp [] x) (susp [] y) (h x y e)
 
 -- two parts that stand for one variable
 pub same_variable : (s : List Binding) (p : PlainPair) (x y : Var) (t u : NominalTerm) → under s t ≡ under s (plain_term p.left) → under s u ≡ under s (plain_term p.right) → t ≡ susp [] x → u ≡ susp [] y
-    → (x.num == y.num) ≡ true → AreSame s p
-same_variable s p x y t u h k e f g = sym h ∙ ap (under s) (e ∙ ap (susp []) (var_same x y g) ∙ sym f) ∙ k
+    → x.num ≡ y.num → AreSame s p
+same_variable s p x y t u h k e f g = sym h ∙ ap (under s) (e ∙ ap (susp []) (var_same x y (subst (λ n. (x.num == n) ≡ true) g (number_itself x.num))) ∙ sym f) ∙ k
 
 at_number : (m n : ℕ) → is_eq (nat_cmp m n) ≡ (m == n)
 at_number m n = grind (arith, nat_tests)

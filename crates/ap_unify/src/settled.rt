@@ -19,11 +19,17 @@ use std::collections::BTreeSet;
 /// No look is made before a run has gone on so often.
 const FEW: u64 = 64;
 
-/// A look goes no further than this.
-const NEAR: usize = 32;
+/// The first looks go no further than this.
+const NEAR: u64 = 32;
 
-/// After a look in vain none is made before a run has gone on so often again.
-const PAUSE: u64 = 256;
+/// Later ones go further, by one step for so many turns of the run.
+const PART: u64 = 256;
+
+/// After a look in vain none is made before the run has gone on so often for each step that it might have taken.
+const PAUSE: u64 = 128;
+
+/// A pair is kept where its look was no shorter than this.
+const WORTH: u64 = 8;
 
 /// Pairs of variables that are known to stand for one term, how often a run went on, and from where a look is made
 /// again.
@@ -118,25 +124,28 @@ fn look_further<'a>(store: &Store<'a>, settled: &Settled, ahead: &mut Ahead<'a>)
     }
 }
 
-/// Whether two parts stand for one term, as far as a short look tells.
-fn are_same<'a>(
+/// How many steps a look took that tells that two parts stand for one term; none where one of fewer than `near` steps
+/// does not tell it.
+fn look<'a>(
     alloc: Global,
     store: &Store<'a>,
     settled: &Settled,
+    near: u64,
     first: PlainPair<'a>,
-) -> Result<bool, Memory>
+) -> Result<Option<u64>, Memory>
     requires { AreSettled (bindings_of store.now) settled.now }
-    ensures { IfOk result (λ same. same ≡ true → AreSame (bindings_of store.now) first.entry) }
+    ensures { IfOk result (λ steps. IfSome steps (λ _.
+        AreSame (bindings_of store.now) first.entry)) }
 {
     let mut waiting = Vec::new(alloc);
     let mut ahead = Ahead {
         next: first,
         later: first,
     };
-    'looking: for _ in 0..NEAR {
+    'looking: for steps in 0..near {
         match look_further(store, settled, &mut ahead) {
-            Turn::Clash => return Ok(false),
-            Turn::Other => return Ok(false),
+            Turn::Clash => return Ok(None),
+            Turn::Other => return Ok(None),
             Turn::On => continue,
             Turn::Both => {
                 waiting.push(ahead.later)?;
@@ -145,11 +154,11 @@ fn are_same<'a>(
             Turn::Done => {}
         }
         let Some(next) = waiting.pop() else {
-            return Ok(true);
+            return Ok(Some(steps));
         };
         ahead.next = next;
     }
-    Ok(false)
+    Ok(None)
 }
 
 /// Keeps the variables of two parts that stand for one term, if both are variables.
@@ -166,7 +175,43 @@ fn keep(settled: &mut Settled, pair: PlainPair<'_>) -> Result<(), Memory>
     }
 }
 
-/// Whether two bound variables are known to stand for one term, or a short look tells it, after some turns.
+/// Counts a turn of a run, and tells whether there may be a look before it.
+fn is_time(settled: &mut Settled) -> bool
+    ensures { (s : List Binding) → AreSettled s settled.old → AreSettled s settled.new }
+{
+    settled.turns = settled.turns.saturating_add(1);
+    settled.turns > settled.until
+}
+
+/// Whether a look tells that two variables stand for one term; a pair whose look was long is kept.
+fn is_seen<'a>(
+    alloc: Global,
+    store: &Store<'a>,
+    settled: &mut Settled,
+    pair: PlainPair<'a>,
+) -> Result<bool, Memory>
+    requires { AreSettled (bindings_of store.now) settled.old }
+    ensures same { IfOk result (λ same. same ≡ true → AreSame (bindings_of store.now) pair.entry) }
+    ensures settled { OnOk result (AreSettled (bindings_of store.now) settled.new) }
+{
+    if variable_of(pair.left).is_none() || variable_of(pair.right).is_none() {
+        return Ok(false);
+    }
+    let near = (settled.turns / PART).saturating_add(NEAR);
+    let Some(steps) = look(alloc, store, settled, near, pair)? else {
+        let pause = near.saturating_mul(PAUSE);
+        settled.until = settled.turns.saturating_add(pause);
+        return Ok(false);
+    };
+    if steps < WORTH {
+        return Ok(true);
+    }
+    keep(settled, pair)?;
+    Ok(true)
+}
+
+/// Whether two parts are variables that are known to stand for one term, or a look tells it, which is made before
+/// some turns of a run alone.
 pub fn is_settled<'a>(
     alloc: Global,
     store: &Store<'a>,
@@ -177,17 +222,8 @@ pub fn is_settled<'a>(
     ensures same { IfOk result (λ same. same ≡ true → AreSame (bindings_of store.now) pair.entry) }
     ensures settled { OnOk result (AreSettled (bindings_of store.now) settled.new) }
 {
-    settled.turns = settled.turns.saturating_add(1);
-    if settled.turns <= settled.until
-        || variable_of(pair.left).is_none()
-        || variable_of(pair.right).is_none()
-    {
+    if !is_time(settled) {
         return Ok(false);
     }
-    if are_same(alloc, store, settled, pair)? {
-        keep(settled, pair)?;
-        return Ok(true);
-    }
-    settled.until = settled.turns.saturating_add(PAUSE);
-    Ok(false)
+    is_seen(alloc, store, settled, pair)
 }

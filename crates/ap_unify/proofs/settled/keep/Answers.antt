@@ -10,4 +10,4 @@ returns-in_ok-insert-in-Some-Some c =
     let l : plain_term c.args.pair.left ≡ susp [] c.in-Some-Some.x = rw c.in-Some-Some.is-0 at c.variable_of.ensures in
     let r : plain_term c.args.pair.right ≡ susp [] c.in-Some-Some.y = rw c.in-Some-Some.is-1 at c.variable_of-2.ensures in
     λ s h k. one_settled s c.args.settled.now (record { pairs = c.insert.new.self; turns = c.args.settled.now.turns; until = c.args.settled.now.until }) c.in-Some-Some.x c.in-Some-Some.y
-    (λ q. c.in_ok-insert.ensures.updates.0 q) (sym (ap (under s) l) ∙ h ∙ ap (under s) r) k
+    (λ q. c.in_ok-insert-in-Some-Some.ensures.updates.0 q) (sym (ap (under s) l) ∙ h ∙ ap (under s) r) k

@@ -1,7 +1,7 @@
 use Rattle.std.proofs.Common.{subst}
 use Rattle.ap_store.specs.Views.{bindings_of}
 use Rattle.ap_unify.proofs.SameLemmas.{looked_both, looked_done, looked_on}
-use Rattle.ap_unify.proofs.settled.are_same.Goals as goal
+use Rattle.ap_unify.proofs.settled.look.Goals as goal
 use Rattle.ap_unify.specs.Settled.{MakesSame}
 
 pub looking-init : goal.looking-init
@@ -21,7 +21,7 @@ looking-preserved-in-Both c =
     let f = c.look_further.new.ahead in
     let here = c.looking.ahead.next in
     looked_both s c.args.first here f c.looking.waiting.items c.push.new.self.items c.looking.invariant (subst (λ t. MakesSame s t f here) c.in-Both.is c.look_further.ensures)
-    c.in_ok-push.ensures.items
+    c.in_ok-push-in-Both.ensures.items
 
 pub looking-preserved : goal.looking-preserved
 looking-preserved c =
