@@ -25,7 +25,7 @@ const NEAR: u64 = 32;
 /// Later ones go further, by one step for so many turns of the run.
 const PART: u64 = 256;
 
-/// After a look in vain none is made before the run has gone on so often for each step that it might have taken.
+/// After a look in vain none is made before the run has gone on so often for each step that it took.
 const PAUSE: u64 = 128;
 
 /// A pair is kept where its look was no shorter than this.
@@ -124,18 +124,24 @@ fn look_further<'a>(store: &Store<'a>, settled: &Settled, ahead: &mut Ahead<'a>)
     }
 }
 
-/// How many steps a look took that tells that two parts stand for one term; none where one of fewer than `near` steps
-/// does not tell it.
+/// Whether a look tells that two parts stand for one term, and how many steps it took.
+#[derive(Clone, Copy)]
+struct Seen {
+    same: bool,
+    steps: u64,
+}
+
+/// A look at two parts, of no more steps than these.
 fn look<'a>(
     alloc: Global,
     store: &Store<'a>,
     settled: &Settled,
     near: u64,
     first: PlainPair<'a>,
-) -> Result<Option<u64>, Memory>
+) -> Result<Seen, Memory>
     requires { AreSettled (bindings_of store.now) settled.now }
-    ensures { IfOk result (λ steps. IfSome steps (λ _.
-        AreSame (bindings_of store.now) first.entry)) }
+    ensures { IfOk result (λ seen. seen.same ≡ true →
+        AreSame (bindings_of store.now) first.entry) }
 {
     let mut waiting = Vec::new(alloc);
     let mut ahead = Ahead {
@@ -144,8 +150,8 @@ fn look<'a>(
     };
     'looking: for steps in 0..near {
         match look_further(store, settled, &mut ahead) {
-            Turn::Clash => return Ok(None),
-            Turn::Other => return Ok(None),
+            Turn::Clash => return Ok(Seen { same: false, steps }),
+            Turn::Other => return Ok(Seen { same: false, steps }),
             Turn::On => continue,
             Turn::Both => {
                 waiting.push(ahead.later)?;
@@ -154,11 +160,14 @@ fn look<'a>(
             Turn::Done => {}
         }
         let Some(next) = waiting.pop() else {
-            return Ok(Some(steps));
+            return Ok(Seen { same: true, steps });
         };
         ahead.next = next;
     }
-    Ok(None)
+    Ok(Seen {
+        same: false,
+        steps: near,
+    })
 }
 
 /// Keeps the variables of two parts that stand for one term, if both are variables.
@@ -198,12 +207,13 @@ fn is_seen<'a>(
         return Ok(false);
     }
     let near = (settled.turns / PART).saturating_add(NEAR);
-    let Some(steps) = look(alloc, store, settled, near, pair)? else {
-        let pause = near.saturating_mul(PAUSE);
+    let seen = look(alloc, store, settled, near, pair)?;
+    if !seen.same {
+        let pause = seen.steps.saturating_add(1).saturating_mul(PAUSE);
         settled.until = settled.turns.saturating_add(pause);
         return Ok(false);
-    };
-    if steps < WORTH {
+    }
+    if seen.steps < WORTH {
         return Ok(true);
     }
     keep(settled, pair)?;
