@@ -17,15 +17,16 @@ use Rattle.ap_equations.specs.Plain.{plain_term}
 use Rattle.ap_equations.specs.declared.plain.PlainPair.{PlainPair}
 use Rattle.ap_rules.proofs.SuspensionLemmas.{form_under}
 use Rattle.ap_rules.specs.Runs.{equation_under, problem_under, stage_under}
-use Rattle.ap_rules.specs.Work.{equations_left, problems_met}
+use Rattle.ap_rules.specs.Work.{GoOn, equations_left, problems_met}
 use Rattle.ap_rules.specs.declared.pairs.Work.{Work}
 use Rattle.ap_store.specs.Heads.{HasForm}
+use Rattle.ap_store.specs.Triples.{Triple}
 use Rattle.ap_theory.proofs.BooleanLemmas.{and_left, and_right}
 use Rattle.ap_theory.proofs.DisagreementLemmas.{disagreement_none}
 use Rattle.ap_theory.proofs.PermutationLemmas.{name_eq_itself, name_eq_same}
 use Rattle.ap_theory.proofs.TermLemmas.{var_same}
 use Rattle.ap_unify.proofs.AlikeLemmas.{alike_itself}
-use Rattle.ap_unify.specs.Parts.{IsReached, IsRuleFor, LeadsTo, PairReading, parts_equation, rule_of, stage_of, waiting_equations}
+use Rattle.ap_unify.specs.Parts.{IsReached, IsRuleFor, LeadsTo, parts_equation, rule_of, stage_of, waiting_equations}
 use Rattle.ap_unify.specs.Settled.{AllSame, AreSame, AreSettled, MakesSame, pair_cmp}
 use Rattle.ap_unify.specs.declared.settled.Settled.{Settled}
 use Rattle.ap_unify.specs.declared.parts.Ahead.{Ahead}
@@ -47,11 +48,11 @@ number_itself n = grind (arith, nat_tests)
 var_itself : (x : Var) → var_eq x x ≡ true
 var_itself x = number_itself x.num
 
-equations_in : Progress → List Equation
+abbrev equations_in : Progress → List Equation
 equations_in (next r) = r.equations
 equations_in _ = []
 
-problems_in : Progress → List Problem
+abbrev problems_in : Progress → List Problem
 problems_in (next r) = r.problems
 problems_in _ = []
 
@@ -179,42 +180,9 @@ module _ (s : List Binding) where
       let a = itself t es ps in
       subst (λ (u : NominalTerm). LeadsTo (equal_in_front t u es ps) (next (without es ps))) h (a.0, next (without es ps), a.1, alike_itself (next (without es ps)))
 
-right_of : Equation → NominalTerm
-right_of (t ≐ u) = u
-
--- the right side of the last equation
-last_right : List Equation → NominalTerm
-last_right [] = unit
-last_right (e ∷ []) = right_of e
-last_right (e ∷ (f ∷ es)) = last_right (f ∷ es)
-
--- what stands for one term does so after a step
-abbrev pub StaysSame : List Binding → List Binding → Type 0
-StaysSame s r = (t u : NominalTerm) → under s t ≡ under s u → under r t ≡ under r u
-
-module _ (q : PairReading) (s r : List Binding) (f : Ahead) (x : Rule) where
-  -- equations in front of one whose sides are the same
-  stay : (new : List Equation) → ((es : List Equation) (ps : List Problem) → next (stage_under r (new ++ es) ps) ≡ apply_rule x (map (equation_under s) es) (map (problem_under s) ps) s)
-      → (t u : NominalTerm) → under s t ≡ under s u → last_right (map (equation_under r) (new ++ (t ≐ u) ∷ [])) ≡ last_right (map (equation_under r) (new ++ (t ≐ t) ∷ []))
-  unfolding equations_in
-  stay new h t u e =
-      ap (λ p. last_right (equations_in p))
-      (h ((t ≐ u) ∷ []) [] ∙ ap (λ v. apply_rule x ((under s t ≐ v) ∷ []) [] s) (sym e) ∙ sym (h ((t ≐ t) ∷ []) []))
-
-  pub done_same : IsRuleFor q turns.Done f s r x → StaysSame s r
-  unfolding last_right right_of
-  done_same h t u e = sym (stay [] h t u e)
-
-  pub on_same : IsRuleFor q turns.On f s r x → StaysSame s r
-  unfolding last_right right_of
-  on_same h t u e = sym (stay (q f.next ∷ []) h t u e)
-
-  pub both_same : IsRuleFor q turns.Both f s r x → StaysSame s r
-  unfolding last_right right_of
-  both_same h t u e = sym (stay (q f.next ∷ q f.later ∷ []) h t u e)
-
-pub settled_stay : (s r : List Binding) (k : Settled) → StaysSame s r → AreSettled s k → AreSettled r k
-settled_stay s r k f h x y e = f (susp [] x) (susp [] y) (h x y e)
+-- what stands for one term does so after more steps
+pub settled_on : (a b : Triple) (w v : Work) (k : Settled) → AreSettled a.bindings k → GoOn a w b v → AreSettled b.bindings k
+settled_on a b w v k h g x y e = g.same (susp [] x) (susp [] y) (h x y e)
 
 -- two parts that stand for one variable
 pub same_variable : (s : List Binding) (p : PlainPair) (x y : Var) (t u : NominalTerm) → under s t ≡ under s (plain_term p.left) → under s u ≡ under s (plain_term p.right) → t ≡ susp [] x → u ≡ susp [] y

@@ -8,8 +8,6 @@ use Rattle.ap_defs.specs.Terms.{susp}
 use Rattle.ap_defs.specs.declared.terms.Var.{Var}
 use Rattle.ap_equations.specs.Plain.{plain_term}
 use Rattle.ap_equations.specs.declared.plain.PlainPair.{PlainPair}
-use Rattle.ap_unify.specs.declared.fronts.Way.{Way}
-use Rattle.ap_unify.specs.declared.fronts.Way.TheVariants as ways
 use Rattle.ap_unify.specs.declared.parts.Ahead.{Ahead}
 use Rattle.ap_unify.specs.declared.parts.Turn.{Turn}
 use Rattle.ap_unify.specs.declared.parts.Turn.TheVariants as turns
@@ -36,8 +34,3 @@ pair_cmp p q = ordering_then (nat_cmp p.0 q.0) (nat_cmp p.1 q.1)
 -- the variables of each pair that is kept stand for one term
 abbrev pub AreSettled : List Binding → Settled → Type 0
 AreSettled s k = (x y : Var) → contains pair_cmp k.pairs (x.num, y.num) ≡ true → under s (susp [] x) ≡ under s (susp [] y)
-
--- unless there is no solution
-abbrev pub AreWaySettled : List Binding → Way → Settled → Type 0
-AreWaySettled s (ways.End b) k = b ≡ true → AreSettled s k
-AreWaySettled s ways.On k = AreSettled s k

@@ -6,8 +6,6 @@ ghost use Rattle.ap_defs.specs.Unification.{next};
 ghost use Rattle.ap_rules.specs.Runs.{stage_under};
 ghost use Rattle.ap_rules.specs.Work.{equations_left, problems_met};
 ghost use Rattle.ap_rules.specs.declared.pairs.Work.{Work};
-ghost use Rattle.ap_unify.specs.Settled.{AreSettled, AreWaySettled};
-ghost use Rattle.ap_unify.specs.declared.settled.Settled.{Settled};
 ghost use Rattle.ap_unify.specs.Parts.{AreWaitingMarksTrue, AreWayMarksTrue, IsWaitingBelow, IsWayBelow, PairReading, progress_to, waiting_equations};
 
 use crate::parts::Ahead;
@@ -37,8 +35,6 @@ pub fn after_done(front: &mut Front<'_>) -> Way
         IsWayBelow q n result front.new }
     ensures marks { (s : List Binding) → AreWaitingMarksTrue s front.old.waiting →
         AreWayMarksTrue s result front.new }
-    ensures settled { (s : List Binding) → (k : Settled) → AreSettled s k →
-        AreWaySettled s result k }
 {
     match front.waiting {
         None => Way::End(true),

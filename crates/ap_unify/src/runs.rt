@@ -17,7 +17,7 @@ use crate::moved_runs::along_closures;
 use crate::parts::Ahead;
 use crate::settled::Settled;
 use crate::terms::Terms;
-use crate::ways::next_way;
+use crate::ways::{next_way, way_unless_settled};
 use ap_defs::memory::Memory;
 use ap_equations::plain::{Plain, PlainPair};
 use ap_rules::pairs::{ClosurePair, Work};
@@ -30,16 +30,12 @@ fn along<'a>(
     alloc: Global,
     store: &mut Store<'a>,
     work: &mut Work<'a>,
-    settled: &mut Settled,
     first: PlainPair<'a>,
 ) -> Result<bool, Memory>
     requires below { AreBelowBoth parts_equation (present store.old).next first }
     requires marks { AreMarksTrue (bindings_of store.old) first }
-    requires settled { AreSettled (bindings_of store.old) settled.old }
     ensures stage { IfOk result (λ goes_on. LeadsTo
         (stage_with parts_equation (bindings_of store.old) first.entry work.old) (progress_if goes_on (work_stage (bindings_of store.new) work.new))) }
-    ensures settled { IfOk result (λ goes_on. goes_on ≡ true →
-        AreSettled (bindings_of store.new) settled.new) }
     ensures goes_on { OnOk result (GoOn (present store.old) work.old (present store.new) work.new) }
     ensures past { IsPrefixOf (versions store.old) (versions store.new) }
     ensures kinds { kinds store.new ≡ kinds store.old }
@@ -53,7 +49,41 @@ fn along<'a>(
         waiting: None,
     };
     'going: loop {
-        match next_way(alloc, store, work, settled, &mut front)? {
+        match next_way(alloc, store, work, &mut front)? {
+            Way::End(goes_on) => return Ok(goes_on),
+            Way::On => {}
+        }
+    }
+}
+
+/// Likewise, and without equations whose sides are known to stand for one term.
+fn along_unless_settled<'a>(
+    alloc: Global,
+    store: &mut Store<'a>,
+    work: &mut Work<'a>,
+    settled: &mut Settled,
+    first: PlainPair<'a>,
+) -> Result<bool, Memory>
+    requires below { AreBelowBoth parts_equation (present store.old).next first }
+    requires marks { AreMarksTrue (bindings_of store.old) first }
+    requires settled { AreSettled (bindings_of store.old) settled.old }
+    ensures stage { IfOk result (λ goes_on. LeadsTo
+        (stage_with parts_equation (bindings_of store.old) first.entry work.old) (progress_if goes_on (work_stage (bindings_of store.new) work.new))) }
+    ensures settled { OnOk result (AreSettled (bindings_of store.new) settled.new) }
+    ensures goes_on { OnOk result (GoOn (present store.old) work.old (present store.new) work.new) }
+    ensures past { IsPrefixOf (versions store.old) (versions store.new) }
+    ensures kinds { kinds store.new ≡ kinds store.old }
+{
+    let ahead = Ahead {
+        next: first,
+        later: first,
+    };
+    let mut front = Front {
+        ahead,
+        waiting: None,
+    };
+    'going: loop {
+        match way_unless_settled(alloc, store, work, settled, &mut front)? {
             Way::End(goes_on) => return Ok(goes_on),
             Way::On => {}
         }
@@ -74,8 +104,7 @@ fn advance_by<'a>(
     ensures stage { IfOk result (λ goes_on. LeadsTo (stage_under (bindings_of store.old)
         (pair_equation first.entry ∷ equations_left work.old) (problems_met work.old))
         (progress_if goes_on (work_stage (bindings_of store.new) work.new))) }
-    ensures settled { IfOk result (λ goes_on. goes_on ≡ true →
-        AreSettled (bindings_of store.new) settled.new) }
+    ensures settled { OnOk result (AreSettled (bindings_of store.new) settled.new) }
     ensures goes_on { OnOk result (GoOn (present store.old) work.old (present store.new) work.new) }
     ensures past { IsPrefixOf (versions store.old) (versions store.new) }
     ensures kinds { kinds store.new ≡ kinds store.old }
@@ -84,12 +113,9 @@ fn advance_by<'a>(
     let right = Plain::of(&first.right);
     match (left, right) {
         (Some(left), Some(right)) => {
-            along(alloc, store, work, settled, PlainPair { left, right })
+            along_unless_settled(alloc, store, work, settled, PlainPair { left, right })
         },
-        _ => {
-            settled.forget();
-            along_closures(alloc, store, work, first)
-        }
+        _ => along_closures(alloc, store, work, first),
     }
 }
 
@@ -105,8 +131,7 @@ fn advance<'a>(
     requires settled { AreSettled (bindings_of store.old) settled.old }
     ensures stage { IfOk result (λ goes_on. LeadsTo (work_stage (bindings_of store.old) work.old)
         (progress_if goes_on (work_stage (bindings_of store.new) work.new))) }
-    ensures settled { IfOk result (λ goes_on. goes_on ≡ true →
-        AreSettled (bindings_of store.new) settled.new) }
+    ensures settled { OnOk result (AreSettled (bindings_of store.new) settled.new) }
     ensures goes_on { OnOk result (GoOn (present store.old) work.old (present store.new) work.new) }
     ensures past { IsPrefixOf (versions store.old) (versions store.new) }
     ensures kinds { kinds store.new ≡ kinds store.old }
@@ -118,25 +143,21 @@ fn advance<'a>(
 }
 
 /// Rewrites equations from the first, until none is left or there is no solution.
-fn run<'a>(
-    alloc: Global,
-    store: &mut Store<'a>,
-    work: &mut Work<'a>,
-    settled: &mut Settled,
-) -> Result<bool, Memory>
-    requires pairs { ArePairsBelow (present store.old).next work.old.equations.items }
-    requires settled { AreSettled (bindings_of store.old) settled.old }
+fn run<'a>(alloc: Global, store: &mut Store<'a>, work: &mut Work<'a>) -> Result<bool, Memory>
+    requires { ArePairsBelow (present store.old).next work.old.equations.items }
     ensures reached { IfOk result (λ solved. Reaches (work_stage (bindings_of store.old) work.old)
         (progress_if solved (work_stage (bindings_of store.new) work.new))) }
     ensures left { IfOk result (λ solved. solved ≡ true → work.new.equations.items ≡ []) }
-    ensures settled { IfOk result (λ solved. solved ≡ true →
-        AreSettled (bindings_of store.new) settled.new) }
     ensures goes_on { OnOk result (GoOn (present store.old) work.old (present store.new) work.new) }
     ensures past { IsPrefixOf (versions store.old) (versions store.new) }
     ensures kinds { kinds store.new ≡ kinds store.old }
 {
+    if work.equations.is_empty() {
+        return Ok(true);
+    }
+    let mut settled = Settled::new(alloc);
     'rewriting: while !work.equations.is_empty() {
-        if !advance(alloc, store, work, settled)? {
+        if !advance(alloc, store, work, &mut settled)? {
             return Ok(false);
         }
     }
@@ -148,26 +169,22 @@ fn solve<'a>(
     alloc: Global,
     store: &mut Store<'a>,
     work: &mut Work<'a>,
-    settled: &mut Settled,
     pair: PlainPair<'a>,
 ) -> Result<bool, Memory>
     requires below { AreBelowBoth parts_equation (present store.old).next pair }
     requires marks { AreMarksTrue (bindings_of store.old) pair }
     requires pairs { ArePairsBelow (present store.old).next work.old.equations.items }
-    requires settled { AreSettled (bindings_of store.old) settled.old }
     ensures stage { IfOk result (λ solved. LeadsTo
         (stage_with parts_equation (bindings_of store.old) pair.entry work.old) (progress_if solved (work_stage (bindings_of store.new) work.new))) }
     ensures left { IfOk result (λ solved. solved ≡ true → work.new.equations.items ≡ []) }
-    ensures settled { IfOk result (λ solved. solved ≡ true →
-        AreSettled (bindings_of store.new) settled.new) }
     ensures goes_on { OnOk result (GoOn (present store.old) work.old (present store.new) work.new) }
     ensures past { IsPrefixOf (versions store.old) (versions store.new) }
     ensures kinds { kinds store.new ≡ kinds store.old }
 {
-    if !along(alloc, store, work, settled, pair)? {
+    if !along(alloc, store, work, pair)? {
         return Ok(false);
     }
-    run(alloc, store, work, settled)
+    run(alloc, store, work)
 }
 
 /// The term at a place of a list, which is not known to be ground.
@@ -209,7 +226,6 @@ pub fn run_places<'a>(
     ensures past { IsPrefixOf (versions store.old) (versions store.new) }
     ensures kinds { kinds store.new ≡ kinds store.old }
 {
-    let mut settled = Settled::new(alloc);
     'places: for i in 0..left.terms.len() {
         let here = term_at(left, i);
         let there = term_at(right, i);
@@ -217,7 +233,7 @@ pub fn run_places<'a>(
             left: here,
             right: there,
         };
-        if !solve(alloc, store, work, &mut settled, pair)? {
+        if !solve(alloc, store, work, pair)? {
             return Ok(false);
         }
     }

@@ -55,13 +55,6 @@ impl Settled {
             until: FEW,
         }
     }
-
-    /// No pair is known any more.
-    pub fn forget(&mut self)
-        ensures { (s : List Binding) → AreSettled s self.new }
-    {
-        self.pairs.clear();
-    }
 }
 
 /// The variable of which a part is a suspension, on which no swappings wait.

@@ -10,8 +10,8 @@ use Rattle.ap_equations.specs.Plain.{plain_term}
 use Rattle.ap_rules.specs.Runs.{stage_under}
 use Rattle.ap_rules.specs.Work.{equations_left, problems_met, progress_if, work_stage}
 
-pub along-requires-clause-marks : goal.along-requires-clause-marks
-along-requires-clause-marks c =
+pub along_unless_settled-requires-clause-marks : goal.along_unless_settled-requires-clause-marks
+along_unless_settled-requires-clause-marks c =
     let s = bindings_of c.args.store.now in
     let l : c.in-Some-Some.left.is_ground ≡ false = rw c.in-Some-Some.is-0 at c.of-left.ensures.mark in
     let r : c.in-Some-Some.right.is_ground ≡ false = rw c.in-Some-Some.is-1 at c.of-right.ensures.mark in
@@ -21,9 +21,9 @@ pub returns-in-Some-Some-clause-stage : goal.returns-in-Some-Some-clause-stage
 returns-in-Some-Some-clause-stage c =
     let s = bindings_of c.args.store.now in
     let w = c.args.work.now in
-    let last = work_stage (bindings_of c.along.new.store) c.along.new.work in
+    let last = work_stage (bindings_of c.along_unless_settled.new.store) c.along_unless_settled.new.work in
     let l : plain_term c.in-Some-Some.left ≡ closure_term c.args.first.left = rw c.in-Some-Some.is-0 at c.of-left.ensures.term in
     let r : plain_term c.in-Some-Some.right ≡ closure_term c.args.first.right = rw c.in-Some-Some.is-1 at c.of-right.ensures.term in
-    if_ok c.along.result
+    if_ok c.along_unless_settled.result
     (λ goes_on h. subst (λ (e : Equation). LeadsTo (stage_under s (e ∷ equations_left w) (problems_met w)) (progress_if goes_on last)) (ap₂ ◌≐◌ l r) h)
-    c.along.ensures.stage
+    c.along_unless_settled.ensures.stage

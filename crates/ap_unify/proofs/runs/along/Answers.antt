@@ -4,7 +4,6 @@ use Rattle.ap_store.specs.Views.{bindings_of, present, versions}
 use Rattle.ap_unify.proofs.ReachLemmas.{leads_less, then_reaches}
 use Rattle.ap_rules.proofs.WorkLemmas.{go_on_on, goes_on_on}
 use Rattle.ap_unify.proofs.runs.along.Goals as goal
-use Rattle.ap_unify.specs.Settled.{AreWaySettled}
 use Rattle.ap_unify.specs.Parts.{AreBelowBoth, AreWayMarksTrue, IsWaitingBelow, IsWayBelow, LeadsTo, parts_equation, progress_to, stage_of}
 use Rattle.ap_rules.specs.Work.{progress_if, work_stage}
 use Rattle.ap_unify.specs.declared.fronts.Way.TheVariants as ways
@@ -47,11 +46,7 @@ going-preserved c =
       waiting_below = subst (λ m. IsWaitingBelow parts_equation m f.waiting) (sym n) below.1;
       pair_marks = marks.0;
       waiting_marks = marks.1;
-      settled = subst (λ x. AreWaySettled s x c.next_way.new.settled) c.in-On.is c.in_ok-goes_on.ensures.settled;
       goes_on = go_on_on a b d c.args.work.now c.going.work w c.going.invariant.goes_on c.in_ok-goes_on.ensures.goes_on;
       past = goes_on_on (versions c.args.store.now) (versions c.going.store) (versions c.next_way.new.store) c.going.invariant.past c.next_way.ensures.past;
       kinds = c.next_way.ensures.kinds ∙ c.going.invariant.kinds;
     }
-
-pub returns-in-End-clause-settled : goal.returns-in-End-clause-settled
-returns-in-End-clause-settled c = subst (λ x. AreWaySettled (bindings_of c.next_way.new.store) x c.next_way.new.settled) c.in-End.is c.in_ok-goes_on.ensures.settled

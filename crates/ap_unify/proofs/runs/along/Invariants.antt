@@ -5,7 +5,6 @@ use Rattle.ap_store.specs.Views.{bindings_of, kinds, present, versions}
 use Rattle.ap_unify.proofs.AlikeLemmas.{steps_to_end}
 use Rattle.ap_unify.specs.Parts.{AreBelowBoth, AreMarksTrue, AreWaitingMarksTrue, IsWaitingBelow, LeadsTo, parts_equation, stage_of}
 use Rattle.ap_rules.specs.Work.{GoOn}
-use Rattle.ap_unify.specs.Settled.{AreSettled}
 use Rattle.ap_unify.proofs.runs.along.Given as goal
 
 -- what the stage leads to, the first one leads to
@@ -16,7 +15,6 @@ invariant-going l = record {
   waiting_below : IsWaitingBelow parts_equation (present l.store).next l.front.waiting;
   pair_marks : AreMarksTrue (bindings_of l.store) l.front.ahead.next;
   waiting_marks : AreWaitingMarksTrue (bindings_of l.store) l.front.waiting;
-  settled : AreSettled (bindings_of l.store) l.settled;
   goes_on : GoOn (present l.initial.store) l.initial.work (present l.store) l.work;
   past : IsPrefixOf (versions l.initial.store) (versions l.store);
   kinds : kinds l.store ≡ kinds l.initial.store;

@@ -82,7 +82,6 @@ places-preserved c =
           ∙ ap₂ (λ xs ys. finish ds (ending (stage_under b.bindings (paired xs ys) ps))) c.term_at-here.ensures.term c.term_at-there.ensures.term
           ∙ front_ending (paired (drop (c.places.i + 1) ts) (drop (c.places.i + 1) us)) b.bindings (well c.places.store).idempotent t u ps d.bindings (problems_met v) e ds;
       none = none;
-      settled = c.in_ok-solve.ensures.settled c.if-not-branch.false;
       goes_on = go_on_on a b d c.args.work.now w v c.places.invariant.goes_on c.in_ok-solve.ensures.goes_on;
       past = goes_on_on (versions c.args.store.now) (versions c.places.store) (versions c.solve.new.store) c.places.invariant.past c.solve.ensures.past;
       kinds = c.solve.ensures.kinds ∙ c.places.invariant.kinds;

@@ -14,8 +14,8 @@ returns-then-not-branch-clause-stage c =
     let s = work_stage (bindings_of c.along.new.store) c.along.new.work in
     subst (λ v. LeadsTo first (progress_if v s)) c.if-not-branch.true c.in_ok-along.ensures.stage
 
-pub run-requires-clause-pairs : goal.run-requires-clause-pairs
-run-requires-clause-pairs c =
+pub run-requires : goal.run-requires
+run-requires c =
     let g = c.in_ok-along.ensures.goes_on in
     subst (λ n. ArePairsBelow n c.along.new.work.equations.items) (sym g.next) (g.pairs c.requires.pairs)
 
