@@ -96,23 +96,25 @@ module _ (s : List Binding) where
   by_rule (app f t) (name b) h k es e q = absurd (none_next (of_all es) e)
   by_rule (app f t) (pair v z) h k es e q = absurd (none_next (of_all es) e)
   by_rule (app f t) (app g u) h k es e q =
-      (elim (f == g) as (λ v. (f == g) ≡ v → apply_rule (if v then replace ((t ≐ u) ∷ []) [] else clash) [] [] s ≡ next (of_all es) → app f t ≡ app g u) [
-        | true ↦ λ i j. let l : AllEqual ((t ≐ u) ∷ []) = subst AllEqual (sym (ap equations_in j)) q in ap₂ app (same_number f g i) l.0
+      let l : (f ≡ g) × (t ≡ u) = (elim (f == g) as (λ v. (f == g) ≡ v → apply_rule (if v then replace ((t ≐ u) ∷ []) [] else clash) [] [] s ≡ next (of_all es) → (f ≡ g) × (t ≡ u)) [
+        | true ↦ λ i j. let m : AllEqual ((t ≐ u) ∷ []) = subst AllEqual (sym (ap equations_in j)) q in (same_number f g i, m.0)
         | false ↦ λ i j. absurd (none_next (of_all es) j)
-      ] refl) e
+      ] refl) e in
+      ap₂ app l.0 l.1
   by_rule (app f t) (abs b z) h k es e q = absurd (none_next (of_all es) e)
   by_rule (abs a t) unit h k es e q = absurd (none_next (of_all es) e)
   by_rule (abs a t) (name b) h k es e q = absurd (none_next (of_all es) e)
   by_rule (abs a t) (pair v z) h k es e q = absurd (none_next (of_all es) e)
   by_rule (abs a t) (app g z) h k es e q = absurd (none_next (of_all es) e)
   by_rule (abs a t) (abs b u) h k es e q =
-      (elim (name_eq a b) as (λ v. name_eq a b ≡ v → apply_rule (if v then replace ((t ≐ u) ∷ []) [] else swapped a b u t) [] [] s ≡ next (of_all es) → abs a t ≡ abs b u) [
-        | true ↦ λ i j. let l : AllEqual ((t ≐ u) ∷ []) = subst AllEqual (sym (ap equations_in j)) q in ap₂ abs (name_eq_same a b i) l.0
-        | false ↦ λ i. elim (a.sort == b.sort) as (λ v. apply_rule (if v then replace ((t ≐ act_term (swap_of a b ∷ []) u) ∷ []) ((a # u) ∷ []) else clash) [] [] s ≡ next (of_all es) → abs a t ≡ abs b u) [
+      let l : (a ≡ b) × (t ≡ u) = (elim (name_eq a b) as (λ v. name_eq a b ≡ v → apply_rule (if v then replace ((t ≐ u) ∷ []) [] else swapped a b u t) [] [] s ≡ next (of_all es) → (a ≡ b) × (t ≡ u)) [
+        | true ↦ λ i j. let m : AllEqual ((t ≐ u) ∷ []) = subst AllEqual (sym (ap equations_in j)) q in (name_eq_same a b i, m.0)
+        | false ↦ λ i. elim (a.sort == b.sort) as (λ v. apply_rule (if v then replace ((t ≐ act_term (swap_of a b ∷ []) u) ∷ []) ((a # u) ∷ []) else clash) [] [] s ≡ next (of_all es) → (a ≡ b) × (t ≡ u)) [
           | true ↦ λ j. absurd (some_none (a # u) (ap problems_in j))
           | false ↦ λ j. absurd (none_next (of_all es) j)
         ]
-      ] refl) e
+      ] refl) e in
+      ap₂ abs l.0 l.1
   by_rule unit (susp q y) h k es e z = absurd k
   by_rule (name a) (susp q y) h k es e z = absurd k
   by_rule (pair t u) (susp q y) h k es e z = absurd k
