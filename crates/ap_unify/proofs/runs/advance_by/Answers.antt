@@ -1,9 +1,11 @@
 use Rattle.std.proofs.Common.{◌≡◌, ◌∷◌, false, ap₂, subst}
 use Rattle.ap_defs.specs.Substitution.{Equation, ◌≐◌}
 use Rattle.ap_perm.specs.Closures.{closure_term}
-use Rattle.ap_store.specs.Views.{bindings_of}
+use Rattle.ap_fresh.proofs.StepLemmas.{on_ok}
+use Rattle.ap_store.specs.Views.{bindings_of, present}
 use Rattle.ap_rules.proofs.WorkLemmas.{if_ok}
 use Rattle.ap_unify.proofs.PartLemmas.{unmarked}
+use Rattle.ap_unify.proofs.SameLemmas.{settled_on}
 use Rattle.ap_unify.proofs.runs.advance_by.Goals as goal
 use Rattle.ap_unify.specs.Parts.{LeadsTo}
 use Rattle.ap_equations.specs.Plain.{plain_term}
@@ -27,3 +29,9 @@ returns-in-Some-Some-clause-stage c =
     if_ok c.along_unless_settled.result
     (λ goes_on h. subst (λ (e : Equation). LeadsTo (stage_under s (e ∷ equations_left w) (problems_met w)) (progress_if goes_on last)) (ap₂ ◌≐◌ l r) h)
     c.along_unless_settled.ensures.stage
+
+pub returns-in_default-clause-settled : goal.returns-in_default-clause-settled
+returns-in_default-clause-settled c =
+    let a = present c.args.store.now in
+    let b = present c.along_closures.new.store in
+    on_ok c.along_closures.result (settled_on a b c.args.work.now c.along_closures.new.work c.args.settled.now c.requires.settled) c.along_closures.ensures.goes_on
