@@ -234,6 +234,3 @@ module _ (s : List Binding) (first here : PlainPair) (f : Ahead) (old new : List
 
   pub looked_done : MakesSame s turns.Done f here → (other : PlainPair) → old ≡ new ++ other ∷ [] → AreSame s other → AllSame s new → AreSame s first
   looked_done m other e h k = known m (subst (AllSame s) (sym e) (all_more s other new k h))
-
-  pub looked_all : MakesSame s turns.Done f here → old ≡ [] → AreSame s first
-  looked_all m e = known m (subst (AllSame s) (sym e) tt)
