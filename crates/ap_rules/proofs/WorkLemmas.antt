@@ -4,7 +4,7 @@ use Rattle.std.proofs.lemmas.List.{append-nil, length-map, reverse-append}
 use Rattle.std.specs.Prelude.{filter, IfOk, Result, Ok, Err}
 use Rattle.ap_defs.specs.Freshness.{has_cond}
 use Rattle.ap_defs.specs.Renaming.{AreBelow, IsBelow, rename_term}
-use Rattle.ap_defs.specs.Substitution.{Binding, Equation, Problem, moved, put_binding, under, ◌#◌, ◌:=◌}
+use Rattle.ap_defs.specs.Substitution.{Binding, Equation, Problem, moved, put, put_binding, under, ◌#◌, ◌:=◌}
 use Rattle.ap_defs.specs.Terms.{NominalTerm, term_of}
 use Rattle.ap_defs.specs.Unification.{Progress, Rule, apply_rule, bind, fresh_for, next, replace}
 use Rattle.ap_defs.specs.declared.terms.Name.{Name}
@@ -106,11 +106,15 @@ carried_bound s r x v es fs ps qs u e h k =
 
 -- How triples and work go on.
 pub go_same : (a : Triple) (w v : Work) → (ArePairsBelow a.next w.equations.items → ArePairsBelow a.next v.equations.items) → v.taken.items ≡ w.taken.items → GoOn a w a v
-go_same a w v h e = record { next = refl; pairs = h; conditions = λ ds k c. k c ∙ ap (λ ts. has_cond c (a.conditions ++ ts)) (sym e); no_vars = λ t k. k }
+go_same a w v h e = record { next = refl; pairs = h; conditions = λ ds k c. k c ∙ ap (λ ts. has_cond c (a.conditions ++ ts)) (sym e); no_vars = λ t k. k; same = λ t u k. k }
 
 -- no binding brings a variable where none is left
 no_vars_stay : (bs : List Binding) (x : Var) (v : NominalTerm) → IsUnbound bs x → (t : NominalTerm) → HasNoVars (under bs t) → HasNoVars (under ((x := v) ∷ map (put_binding x v) bs) t)
 no_vars_stay bs x v u t h = subst HasNoVars (sym (under_bind x v bs u t ∙ put_absent x v (under bs t) (h x))) h
+
+-- what stands for one term does so once a variable is bound
+same_stay : (bs : List Binding) (x : Var) (v : NominalTerm) → IsUnbound bs x → (t u : NominalTerm) → under bs t ≡ under bs u → under ((x := v) ∷ map (put_binding x v) bs) t ≡ under ((x := v) ∷ map (put_binding x v) bs) u
+same_stay bs x v i t u h = under_bind x v bs i t ∙ ap (put x v) h ∙ sym (under_bind x v bs i u)
 
 pub go_bound : (a b : Triple) (w v : Work) (x : Var) (t : NominalTerm) → IsUnbound a.bindings x → b ≡ with_binding x t a → v.equations.items ≡ w.equations.items
     → v.taken.items ≡ w.taken.items ++ filter (is_on x) a.conditions → GoOn a w b v
@@ -121,6 +125,7 @@ go_bound a b w v x t i e h k = record {
       taken_more ds a.conditions w.taken.items x m c
       ∙ ap₂ (λ cs ts. has_cond c (cs ++ ts)) (sym (ap (λ (d : Triple). d.conditions) e)) (sym k);
   no_vars = λ u m. subst (λ (d : Triple). HasNoVars (under d.bindings u)) (sym e) (no_vars_stay a.bindings x t i u m);
+  same = λ l m q. subst (λ (d : Triple). under d.bindings l ≡ under d.bindings m) (sym e) (same_stay a.bindings x t i l m q);
 }
 
 pub go_on_on : (a b c : Triple) (u v w : Work) → GoOn a u b v → GoOn b v c w → GoOn a u c w
@@ -129,6 +134,7 @@ go_on_on a b c u v w h k = record {
   pairs = λ p. subst (λ n. ArePairsBelow n w.equations.items) h.next (k.pairs (subst (λ n. ArePairsBelow n v.equations.items) (sym h.next) (h.pairs p)));
   conditions = λ ds p. k.conditions ds (h.conditions ds p);
   no_vars = λ t p. k.no_vars t (h.no_vars t p);
+  same = λ t l p. k.same t l (h.same t l p);
 }
 
 pub goes_on_on : (as' bs cs : List Triple) → IsPrefixOf as' bs → IsPrefixOf bs cs → IsPrefixOf as' cs

@@ -99,9 +99,10 @@ ending_if true s = solved s
 abbrev pub AreKept : Conds → Conds → List Cond → Type 0
 AreKept ds kept taken = (c : Cond) → has_cond c ds ≡ has_cond c (kept ++ taken)
 
--- the second triple and work go on with the first ones; where no variable is left, none comes
+-- the second triple and work go on with the first ones; where no variable is left, none comes, and what stands for one term does so on
 pub record GoOn (a : Triple) (w : Work) (b : Triple) (v : Work) : Type 0 where
   pub next : b.next ≡ a.next
   pub pairs : ArePairsBelow a.next w.equations.items → ArePairsBelow a.next v.equations.items
   pub conditions : (ds : Conds) → AreKept ds a.conditions w.taken.items → AreKept ds b.conditions v.taken.items
   pub no_vars : (t : NominalTerm) → HasNoVars (under a.bindings t) → HasNoVars (under b.bindings t)
+  pub same : (t u : NominalTerm) → under a.bindings t ≡ under a.bindings u → under b.bindings t ≡ under b.bindings u

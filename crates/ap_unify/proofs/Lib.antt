@@ -8,6 +8,7 @@ pub mod PartLemmas
 pub mod ReachLemmas
 pub mod ReducingLemmas
 pub mod ResultLemmas
+pub mod SameLemmas
 pub mod SolutionLemmas
 pub mod WayLemmas
 pub mod WellLemmas

@@ -11,6 +11,7 @@ mod moved_runs;
 mod parts;
 mod reducing;
 mod runs;
+mod settled;
 pub mod terms;
 pub mod unify;
 mod ways;

@@ -182,7 +182,8 @@ pub(crate) fn terms_of<'a>(pair: PlainPair<'a>, left: &'a Term, right: &'a Term)
 
 /// The rule for the two parts that come next, neither of them a suspension. It leaves abstractions with
 /// different binders to another way.
-fn forms(ahead: &mut Ahead<'_>) -> Turn
+#[inline(always)]
+pub(crate) fn forms(ahead: &mut Ahead<'_>) -> Turn
     requires left_form { HasForm (plain_term ahead.old.next.left) }
     requires right_form { HasForm (plain_term ahead.old.next.right) }
     ensures turn { (s : List Binding) →

@@ -7,6 +7,7 @@ ghost use Rattle.ap_store.specs.Views.{bindings_of, kinds, present, versions};
 ghost use Rattle.ap_unify.specs.Finishing.{EndsAs};
 ghost use Rattle.ap_unify.specs.Lists.{renamed_terms_in};
 ghost use Rattle.ap_unify.specs.Parts.{AreBelowBoth, AreMarksTrue, LeadsTo, Reaches, parts_equation, stage_with};
+ghost use Rattle.ap_unify.specs.Settled.{AreSettled};
 ghost use Rattle.ap_equations.specs.Plain.{plain_term};
 ghost use Rattle.ap_rules.specs.Runs.{paired, stage_under};
 ghost use Rattle.ap_rules.specs.Work.{ArePairsBelow, GoOn, IsPairBelow, ending_if, equations_left, pair_equation, problems_met, progress_if, work_stage};
@@ -14,8 +15,9 @@ ghost use Rattle.ap_rules.specs.Work.{ArePairsBelow, GoOn, IsPairBelow, ending_i
 use crate::fronts::{Front, Way};
 use crate::moved_runs::along_closures;
 use crate::parts::Ahead;
+use crate::settled::Settled;
 use crate::terms::Terms;
-use crate::ways::next_way;
+use crate::ways::{next_way, way_unless_settled};
 use ap_defs::memory::Memory;
 use ap_equations::plain::{Plain, PlainPair};
 use ap_rules::pairs::{ClosurePair, Work};
@@ -54,18 +56,55 @@ fn along<'a>(
     }
 }
 
+/// Likewise, and without equations whose sides are known to stand for one term.
+fn along_unless_settled<'a>(
+    alloc: Global,
+    store: &mut Store<'a>,
+    work: &mut Work<'a>,
+    settled: &mut Settled,
+    first: PlainPair<'a>,
+) -> Result<bool, Memory>
+    requires below { AreBelowBoth parts_equation (present store.old).next first }
+    requires marks { AreMarksTrue (bindings_of store.old) first }
+    requires settled { AreSettled (bindings_of store.old) settled.old }
+    ensures stage { IfOk result (λ goes_on. LeadsTo
+        (stage_with parts_equation (bindings_of store.old) first.entry work.old) (progress_if goes_on (work_stage (bindings_of store.new) work.new))) }
+    ensures settled { OnOk result (AreSettled (bindings_of store.new) settled.new) }
+    ensures goes_on { OnOk result (GoOn (present store.old) work.old (present store.new) work.new) }
+    ensures past { IsPrefixOf (versions store.old) (versions store.new) }
+    ensures kinds { kinds store.new ≡ kinds store.old }
+{
+    let ahead = Ahead {
+        next: first,
+        later: first,
+    };
+    let mut front = Front {
+        ahead,
+        waiting: None,
+    };
+    'going: loop {
+        match way_unless_settled(alloc, store, work, settled, &mut front)? {
+            Way::End(goes_on) => return Ok(goes_on),
+            Way::On => {}
+        }
+    }
+}
+
 /// One or several steps for an equation in front of those that are left. It answers false where there
 /// is no solution.
 fn advance_by<'a>(
     alloc: Global,
     store: &mut Store<'a>,
     work: &mut Work<'a>,
+    settled: &mut Settled,
     first: ClosurePair<'a>,
 ) -> Result<bool, Memory>
-    requires { IsPairBelow (present store.old).next first }
+    requires below { IsPairBelow (present store.old).next first }
+    requires settled { AreSettled (bindings_of store.old) settled.old }
     ensures stage { IfOk result (λ goes_on. LeadsTo (stage_under (bindings_of store.old)
         (pair_equation first.entry ∷ equations_left work.old) (problems_met work.old))
         (progress_if goes_on (work_stage (bindings_of store.new) work.new))) }
+    ensures settled { OnOk result (AreSettled (bindings_of store.new) settled.new) }
     ensures goes_on { OnOk result (GoOn (present store.old) work.old (present store.new) work.new) }
     ensures past { IsPrefixOf (versions store.old) (versions store.new) }
     ensures kinds { kinds store.new ≡ kinds store.old }
@@ -73,17 +112,26 @@ fn advance_by<'a>(
     let left = Plain::of(&first.left);
     let right = Plain::of(&first.right);
     match (left, right) {
-        (Some(left), Some(right)) => along(alloc, store, work, PlainPair { left, right }),
+        (Some(left), Some(right)) => {
+            along_unless_settled(alloc, store, work, settled, PlainPair { left, right })
+        },
         _ => along_closures(alloc, store, work, first),
     }
 }
 
 /// One or several steps: false where there is no solution.
-fn advance<'a>(alloc: Global, store: &mut Store<'a>, work: &mut Work<'a>) -> Result<bool, Memory>
+fn advance<'a>(
+    alloc: Global,
+    store: &mut Store<'a>,
+    work: &mut Work<'a>,
+    settled: &mut Settled,
+) -> Result<bool, Memory>
     requires some { 0 < vec_len work.old.equations }
     requires below { ArePairsBelow (present store.old).next work.old.equations.items }
+    requires settled { AreSettled (bindings_of store.old) settled.old }
     ensures stage { IfOk result (λ goes_on. LeadsTo (work_stage (bindings_of store.old) work.old)
         (progress_if goes_on (work_stage (bindings_of store.new) work.new))) }
+    ensures settled { OnOk result (AreSettled (bindings_of store.new) settled.new) }
     ensures goes_on { OnOk result (GoOn (present store.old) work.old (present store.new) work.new) }
     ensures past { IsPrefixOf (versions store.old) (versions store.new) }
     ensures kinds { kinds store.new ≡ kinds store.old }
@@ -91,7 +139,7 @@ fn advance<'a>(alloc: Global, store: &mut Store<'a>, work: &mut Work<'a>) -> Res
     let Some(first) = work.equations.pop() else {
         return Ok(true);
     };
-    advance_by(alloc, store, work, first)
+    advance_by(alloc, store, work, settled, first)
 }
 
 /// Rewrites equations from the first, until none is left or there is no solution.
@@ -104,8 +152,12 @@ fn run<'a>(alloc: Global, store: &mut Store<'a>, work: &mut Work<'a>) -> Result<
     ensures past { IsPrefixOf (versions store.old) (versions store.new) }
     ensures kinds { kinds store.new ≡ kinds store.old }
 {
+    if work.equations.is_empty() {
+        return Ok(true);
+    }
+    let mut settled = Settled::new(alloc);
     'rewriting: while !work.equations.is_empty() {
-        if !advance(alloc, store, work)? {
+        if !advance(alloc, store, work, &mut settled)? {
             return Ok(false);
         }
     }

@@ -6,6 +6,7 @@ ghost use Rattle.ap_defs.specs.Unification.{next};
 ghost use Rattle.ap_store.specs.Triples.{IsPrefixOf};
 ghost use Rattle.ap_store.specs.Views.{bindings_of, kinds, present, versions};
 ghost use Rattle.ap_unify.specs.Parts.{AreBelowBoth, AreMarksTrue, AreWaitingMarksTrue, AreWayMarksTrue, IsWaitingBelow, IsWayBelow, LeadsTo, parts_equation, progress_to, stage_of, stage_with, waiting_equations};
+ghost use Rattle.ap_unify.specs.Settled.{AreSettled};
 ghost use Rattle.ap_rules.specs.Runs.{stage_under};
 ghost use Rattle.ap_rules.specs.Work.{ArePairsBelow, GoOn, equations_left, problems_met, progress_if, work_stage};
 ghost use Rattle.ap_rules.specs.declared.pairs.Work.{Work};
@@ -13,6 +14,7 @@ ghost use Rattle.ap_rules.specs.declared.pairs.Work.{Work};
 use crate::fronts::{Front, Way, after_done};
 use crate::moved_runs::along_closures;
 use crate::parts::{Turn, step_parts};
+use crate::settled::{Settled, is_settled};
 use ap_defs::memory::Memory;
 use ap_equations::plain::PlainPair;
 use ap_equations::work::put_equation;
@@ -99,4 +101,35 @@ pub fn next_way<'a>(
             Ok(Way::End(solved))
         }
     }
+}
+
+/// Likewise, and past the equation in front where a look tells that both sides stand for one term.
+pub fn way_unless_settled<'a>(
+    alloc: Global,
+    store: &mut Store<'a>,
+    work: &mut Work<'a>,
+    settled: &mut Settled,
+    front: &mut Front<'a>,
+) -> Result<Way, Memory>
+    requires pair { AreBelowBoth parts_equation (present store.old).next front.old.ahead.next }
+    requires waiting { IsWaitingBelow parts_equation (present store.old).next front.old.waiting }
+    requires marks { AreMarksTrue (bindings_of store.old) front.old.ahead.next }
+    requires waiting_marks { AreWaitingMarksTrue (bindings_of store.old) front.old.waiting }
+    requires settled { AreSettled (bindings_of store.old) settled.old }
+    ensures stage { IfOk result (λ way. LeadsTo (stage_of parts_equation (bindings_of store.old)
+        front.old.ahead.next front.old.waiting work.old)
+        (progress_to parts_equation way (bindings_of store.new) front.new work.new)) }
+    ensures below { IfOk result (λ way.
+        IsWayBelow parts_equation (present store.old).next way front.new) }
+    ensures marks { IfOk result (λ way. AreWayMarksTrue (bindings_of store.new) way front.new) }
+    ensures settled { OnOk result (AreSettled (bindings_of store.new) settled.new) }
+    ensures goes_on { OnOk result (GoOn (present store.old) work.old (present store.new) work.new) }
+    ensures past { IsPrefixOf (versions store.old) (versions store.new) }
+    ensures kinds { kinds store.new ≡ kinds store.old }
+{
+    let same = is_settled(alloc, store, settled, front.ahead.next)?;
+    if same {
+        return Ok(after_done(front));
+    }
+    next_way(alloc, store, work, front)
 }

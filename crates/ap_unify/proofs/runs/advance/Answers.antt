@@ -10,8 +10,8 @@ use Rattle.ap_rules.specs.Work.{ArePairsBelow, pair_equation, problems_met, prog
 use Rattle.ap_rules.specs.declared.pairs.ClosurePair.{ClosurePair}
 use Rattle.ap_rules.specs.declared.pairs.Work.{Work}
 
-pub advance_by-requires : goal.advance_by-requires
-advance_by-requires c =
+pub advance_by-requires-clause-below : goal.advance_by-requires-clause-below
+advance_by-requires-clause-below c =
     let n = (present c.args.store.now).next in
     pairs_below_last n c.pop.new.self.items c.in-Some.first (subst (ArePairsBelow n) c.in-Some.ensures.items c.requires.below)
 

@@ -5,6 +5,7 @@ use Rattle.ap_store.specs.Views.{bindings_of, kinds, present, versions}
 use Rattle.ap_unify.proofs.AlikeLemmas.{steps_to_end}
 use Rattle.ap_unify.specs.Parts.{Reaches}
 use Rattle.ap_rules.specs.Work.{ArePairsBelow, GoOn, work_stage}
+use Rattle.ap_unify.specs.Settled.{AreSettled}
 use Rattle.ap_unify.proofs.runs.run.Given as goal
 
 -- what the work reaches, the first one reaches
@@ -12,6 +13,7 @@ abbrev pub invariant-rewriting : goal.invariant-rewriting
 invariant-rewriting l = record {
   leads : (p : Progress) → Reaches (work_stage (bindings_of l.store) l.work) p → Reaches (work_stage (bindings_of l.initial.store) l.initial.work) p;
   pairs : ArePairsBelow (present l.store).next l.work.equations.items;
+  settled : AreSettled (bindings_of l.store) l.settled;
   goes_on : GoOn (present l.initial.store) l.initial.work (present l.store) l.work;
   past : IsPrefixOf (versions l.initial.store) (versions l.store);
   kinds : kinds l.store ≡ kinds l.initial.store;
