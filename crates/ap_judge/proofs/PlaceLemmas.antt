@@ -1,8 +1,9 @@
 -- What stands for an identifier is found at its place.
-use Rattle.std.proofs.Common.{◌≡◌, ◌<◌, ◌≤◌, ◌+◌, ℕ, zero, suc, Bool, true, false, ◌==◌, ◌&&◌, if◌then◌else◌, List, [], ◌∷◌, map, length, get_or, drop, refl, sym, ap, ◌∙◌, add-one, arith}
+use Rattle.std.proofs.Common.{◌≡◌, ◌<◌, ◌≤◌, ◌+◌, ℕ, zero, suc, Bool, true, false, ◌==◌, ◌&&◌, if◌then◌else◌, List, [], ◌∷◌, ◌++◌, append_assoc, map, length, get_or, drop, refl, sym, ap, ◌∙◌, add-one, arith}
 use Rattle.ap_program.specs.FreeLocals.{free_sort, is_free_var}
 use Rattle.std.proofs.lemmas.Bool.Decides.{nat_tests}
-use Rattle.std.specs.Prelude.{Some}
+use Rattle.std.specs.Option.{is_some}
+use Rattle.std.specs.Prelude.{Option, None, Some}
 use Rattle.ap_defs.specs.declared.goals.Local.{Local}
 use Rattle.ap_defs.specs.declared.terms.Name.{Name}
 use Rattle.ap_defs.specs.declared.terms.Var.{Var}
@@ -246,3 +247,19 @@ module _ (ls : List Local) (i : ℕ) (d : Local) (h : i < length ls) where
   place_of_other n v e =
       ap (places_from n v) (locals_left ls i d h)
       ∙ ap (λ b. if b then (v ∷ places_from n (suc v) (locals_of (drop (i + 1) ls))) else (n ∷ places_from (next_if (free_sort (local_of (get_or ls i d))) n) v (locals_of (drop (i + 1) ls)))) e
+
+  -- the places so far, where one more identifier is no free variable
+  pub place_made : (n v m : ℕ) (ps qs whole : List ℕ) → is_free_var (local_of (get_or ls i d)) ≡ false → m ≡ next_if (free_sort (local_of (get_or ls i d))) n → qs ≡ ps ++ n ∷ []
+      → ps ++ places_from n v (locals_of (drop i ls)) ≡ whole → qs ++ places_from m v (locals_of (drop (i + 1) ls)) ≡ whole
+  place_made n v m ps qs whole e next put so_far =
+      let others = locals_of (drop (i + 1) ls) in
+      ap (λ zs. zs ++ places_from m v others) put ∙ append_assoc ps (n ∷ []) (places_from m v others) ∙ ap (λ k. ps ++ n ∷ places_from k v others) next
+      ∙ ap (λ zs. ps ++ zs) (sym (place_of_other n v e)) ∙ so_far
+
+pub next_some : (o : Option ℕ) (n : ℕ) → is_some o ≡ true → n + 1 ≡ next_if o n
+next_some None n e = cc
+next_some (Some s) n e = add-one n
+
+pub next_none : (o : Option ℕ) (n : ℕ) → is_some o ≡ false → n ≡ next_if o n
+next_none None n e = refl
+next_none (Some s) n e = cc
