@@ -1,5 +1,5 @@
 -- Identifiers that are looked through one by one, and tables that are made of them.
-use Rattle.std.proofs.Common.{◌≡◌, ℕ, zero, suc, ◌+◌, ◌<◌, ◌≤◌, Bool, true, false, not, ◌&&◌, List, [], ◌∷◌, ◌++◌, take, drop, length, get_or, Option, None, Some, refl, sym, ap, ◌∙◌, position, cond, if◌then◌else◌, arith}
+use Rattle.std.proofs.Common.{◌≡◌, ℕ, suc, ◌+◌, ◌<◌, ◌≤◌, Bool, true, false, not, ◌&&◌, List, [], ◌∷◌, ◌++◌, take, drop, length, get_or, Option, None, Some, refl, sym, ap, ◌∙◌, position, cond, if◌then◌else◌, arith}
 use Rattle.std.specs.Option.{option_map}
 use Rattle.std.proofs.lemmas.List.{length-take-le, take-append-drop, take_all}
 use Rattle.std.proofs.Math.Seq.{take-suc}
@@ -7,7 +7,7 @@ use Rattle.ap_trees.specs.Terms.{Name}
 use Rattle.ap_trees.specs.Trees.{name_of_binder}
 use Rattle.ap_scopes.specs.declared.identifiers.Identifier as code
 use Rattle.ap_scopes.specs.Declarations.{or_else}
-use Rattle.ap_scopes.specs.Identifiers.{is_free_identifier, free_place, same_spelling}
+use Rattle.ap_scopes.specs.Identifiers.{is_free_identifier, same_spelling}
 use Rattle.ap_scopes.specs.Views.{identifier_of}
 use Rattle.ap_scopes.proofs.Tables.{position-cons, position-skip, position-hit}
 

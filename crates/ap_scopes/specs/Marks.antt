@@ -1,5 +1,5 @@
 -- Marks of words: a table that has an entry at the mark of each word tells quickly that a word is not among them.
-use Rattle.std.specs.Prelude.{ℕ, zero, suc, ◌+◌, ◌*◌, ◌%◌, ◌==◌, Bool, true, false, ◌&&◌, if◌then◌else◌, List, [], ◌∷◌, Option, None, Some, length, slice_get}
+use Rattle.std.specs.Prelude.{ℕ, suc, ◌+◌, ◌*◌, ◌%◌, ◌==◌, Bool, true, false, ◌&&◌, if◌then◌else◌, List, [], ◌∷◌, Option, Some, length, slice_get}
 
 abbrev pub mark_after : ℕ → List ℕ → ℕ
 mark_after n [] = n

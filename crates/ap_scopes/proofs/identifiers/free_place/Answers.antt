@@ -1,4 +1,4 @@
-use Rattle.std.proofs.Common.{◌≡◌, ℕ, ◌+◌, ◌<◌, ◌≤◌, Bool, true, false, List, [], ◌∷◌, ◌++◌, map, length, take, get_or, Option, None, Some, refl, sym, ap, ◌∙◌, position, if◌then◌else◌, codes, arith}
+use Rattle.std.proofs.Common.{Bool, sym, ◌∙◌, arith}
 use Rattle.ap_trees.specs.Trees.{name_of_binder}
 use Rattle.ap_scopes.specs.declared.identifiers.Identifier as code
 use Rattle.ap_scopes.specs.Identifiers.{is_free_identifier}

@@ -1,4 +1,4 @@
-use Rattle.std.proofs.Common.{◌≡◌, ◌∙◌, sym, ap, ◌++◌, ◌∷◌, []}
+use Rattle.std.proofs.Common.{◌≡◌, ◌∙◌, ap, ◌++◌, ◌∷◌, []}
 use Rattle.ap_trees.specs.Terms.{OfWord, OfVar}
 use Rattle.ap_trees.specs.Trees.{name_of_binder}
 use Rattle.ap_scopes.specs.Identifiers.{free_place, free_one}

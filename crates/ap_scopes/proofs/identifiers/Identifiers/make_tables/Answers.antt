@@ -1,4 +1,4 @@
-use Rattle.std.proofs.Common.{rules, ◌≡◌, ℕ, ◌+◌, ◌<◌, ◌≤◌, Bool, true, false, List, [], ◌∷◌, ◌++◌, map, length, take, get_or, Option, None, Some, refl, sym, ap, ◌∙◌, position, if◌then◌else◌, codes, arith}
+use Rattle.std.proofs.Common.{rules, ◌≡◌, ◌+◌, map, take, refl, sym, ap, ◌∙◌, position}
 use Rattle.ap_trees.specs.Terms.{Name, OfWord, OfVar}
 use Rattle.ap_scopes.specs.Identifiers.{is_free_identifier, free_place}
 use Rattle.ap_scopes.specs.Views.{identifier_of, number_at}

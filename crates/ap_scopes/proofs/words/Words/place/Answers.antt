@@ -1,11 +1,7 @@
-use Rattle.std.proofs.Common.{◌≡◌, ℕ, ◌+◌, ◌<◌, ◌≤◌, Bool, true, false, List, [], ◌∷◌, ◌++◌, map, length, take, get_or, Option, None, Some, refl, sym, ap, ◌∙◌, position, if◌then◌else◌, codes, arith}
-use Rattle.std.specs.Str.{bytes_eq}
+use Rattle.std.proofs.Common.{◌≡◌, false, map, Some, sym, ap, ◌∙◌}
 use Rattle.std.specs.List.{slice_get}
-use Rattle.ap_scopes.specs.Marks.{word_mark, tells, is_table}
-use Rattle.ap_scopes.specs.Views.{words_in}
-use Rattle.ap_scopes.specs.Words.{with_word}
+use Rattle.ap_scopes.specs.Marks.{word_mark, tells}
 use Rattle.ap_scopes.proofs.MarkLemmas.{is_absent, read_there}
-use Rattle.ap_scopes.proofs.Tables.{position-map, insert-map}
 use Rattle.ap_scopes.proofs.words.Words.place.Goals as goal
 
 pub returns-then-latest-eq0-clause-value : goal.returns-then-latest-eq0-clause-value

@@ -1,11 +1,8 @@
-use Rattle.std.proofs.Common.{◌≡◌, ℕ, ◌+◌, ◌<◌, ◌≤◌, Bool, true, false, List, [], ◌∷◌, ◌++◌, map, length, take, get_or, Option, None, Some, refl, sym, ap, ◌∙◌, position, if◌then◌else◌, codes, arith}
+use Rattle.std.proofs.Common.{◌≡◌, Some, sym, ap, ◌∙◌}
 use Rattle.std.specs.Str.{bytes_eq}
 use Rattle.std.specs.List.{slice_get}
-use Rattle.ap_scopes.specs.Marks.{word_mark, tells, is_table}
-use Rattle.ap_scopes.specs.Views.{words_in}
-use Rattle.ap_scopes.specs.Words.{with_word}
 use Rattle.ap_scopes.proofs.MarkLemmas.{found_there, read_there}
-use Rattle.ap_scopes.proofs.Tables.{position-map, insert-map}
+use Rattle.ap_scopes.proofs.Tables.{position-map}
 use Rattle.ap_scopes.proofs.words.Words.place_near.Goals as goal
 
 pub returns-then-is_word-clause-value : goal.returns-then-is_word-clause-value

@@ -1,10 +1,8 @@
-use Rattle.std.proofs.Common.{◌≡◌, ℕ, ◌+◌, ◌<◌, ◌≤◌, Bool, true, false, List, [], ◌∷◌, ◌++◌, map, length, take, get_or, set, Option, None, Some, refl, sym, ap, ◌∙◌, position, if◌then◌else◌, codes, arith}
-use Rattle.std.specs.Str.{bytes_eq}
-use Rattle.ap_scopes.specs.Marks.{word_mark, tells, is_table}
-use Rattle.ap_scopes.specs.Views.{words_in}
+use Rattle.std.proofs.Common.{◌≡◌, ◌+◌, map, set, refl, ap, ◌∙◌}
+use Rattle.ap_scopes.specs.Marks.{is_table}
 use Rattle.ap_scopes.specs.Words.{with_word}
-use Rattle.ap_scopes.proofs.MarkLemmas.{is_absent, found_there, table_put}
-use Rattle.ap_scopes.proofs.Tables.{position-map, insert-map}
+use Rattle.ap_scopes.proofs.MarkLemmas.{table_put}
+use Rattle.ap_scopes.proofs.Tables.{insert-map}
 use Rattle.ap_scopes.proofs.words.Words.put.Goals as goal
 
 pub invariant_of-self-2 : goal.invariant_of-self-2
