@@ -153,6 +153,7 @@ fn bind_held<'a>(
 
 /// Binds a variable to a part, with what was found of the variables there, and takes the conditions on it out of
 /// the store.
+#[inline(always)]
 pub fn bind_plain<'a>(
     alloc: Global,
     store: &mut Store<'a>,

@@ -30,7 +30,6 @@ use ap_perm::closures::Closure;
 use ap_perm::joining::numbered;
 use ap_perm::swappings::preimage;
 use ap_rules::pairs::Work;
-use ap_store::heads::head_key;
 use ap_store::store::Store;
 use std::alloc::Global;
 
@@ -118,9 +117,6 @@ fn moved_forms(sides: &Sides, ahead: &mut Ahead<'_>) -> Turn
 {
     let pair = ahead.next;
     let PlainPair { left, right } = pair;
-    if head_key(left.term) != head_key(right.term) {
-        return Turn::Clash;
-    }
     match (left.term, right.term) {
         (Term::Unit, Term::Unit) => Turn::Done,
         (Term::Name(a), Term::Name(b)) => {
@@ -159,7 +155,7 @@ fn moved_forms(sides: &Sides, ahead: &mut Ahead<'_>) -> Turn
                 Turn::Other
             }
         }
-        _ => Turn::Other,
+        _ => Turn::Clash,
     }
 }
 

@@ -25,7 +25,6 @@ use ap_equations::plain::{Plain, PlainPair};
 use ap_equations::work::bind_plain;
 use ap_perm::joining::numbered;
 use ap_rules::pairs::Work;
-use ap_store::heads::head_key;
 use ap_store::occurrences::Occurrence;
 use ap_store::store::Store;
 use std::alloc::Global;
@@ -233,13 +232,7 @@ pub(crate) fn forms(ahead: &mut Ahead<'_>) -> Turn
                 Turn::Other
             }
         }
-        _ => {
-            if head_key(left.term) == head_key(right.term) {
-                Turn::Other
-            } else {
-                Turn::Clash
-            }
-        }
+        _ => Turn::Clash,
     }
 }
 
