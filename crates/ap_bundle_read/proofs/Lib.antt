@@ -3,3 +3,4 @@ pub mod RepeatLemmas
 pub mod NumberLemmas
 pub mod LoopLemmas
 pub mod CitedLemmas
+pub mod FindLemmas

@@ -1,5 +1,5 @@
 -- Steps of the loops that read.
-use Rattle.std.proofs.Common.{◌≡◌, ℕ, zero, suc, ◌+◌, List, [], ◌∷◌, ◌++◌, Option, None, Some, Ok, Err, refl, ap, sym, append_assoc, drop, drop-cons, get_or, length, ◌<◌}
+use Rattle.std.proofs.Common.{◌≡◌, ℕ, zero, suc, ◌+◌, List, [], ◌∷◌, ◌++◌, Option, None, Some, Ok, Err, refl, ap, ap₂, sym, ◌∙◌, add-one, map, append_assoc, drop, drop-cons, get_or, length, ◌<◌}
 use Rattle.std.proofs.lemmas.List.{append-nil}
 use Rattle.std.specs.Option.{option_map}
 use Rattle.ap_defs.specs.declared.terms.Swap.{Swap}
@@ -29,7 +29,7 @@ swaps_on n k front ns ms s e got = rw (e, got) (sym (with_swaps-append front (s 
 pub swaps_fail : (n k : ℕ) (front : List Swap) (ns : List ℕ) → n ≡ suc k → a_swap ns ≡ None → with_swaps front (swaps n ns) ≡ None
 swaps_fail n k front ns e got = rw (e, got) refl
 
-pub words_on : (front : List Word) (text : List ℕ) (texts : List (List ℕ)) (w : Word) → word_of text ≡ Some w
+words_on : (front : List Word) (text : List ℕ) (texts : List (List ℕ)) (w : Word) → word_of text ≡ Some w
     → option_map (λ ws. (front ++ w ∷ []) ++ ws) (words_spelled texts) ≡ option_map (λ ws. front ++ ws) (words_spelled (text ∷ texts))
 words_on front text texts w got = rw got (joined (words_spelled texts))
   where
@@ -37,8 +37,23 @@ words_on front text texts w got = rw got (joined (words_spelled texts))
     joined None = refl
     joined (Some ws) = ap Some (append_assoc front (w ∷ []) ws)
 
-pub words_fail : (front : List Word) (text : List ℕ) (texts : List (List ℕ)) → word_of text ≡ None → option_map (λ ws. front ++ ws) (words_spelled (text ∷ texts)) ≡ None
+words_fail : (front : List Word) (text : List ℕ) (texts : List (List ℕ)) → word_of text ≡ None → option_map (λ ws. front ++ ws) (words_spelled (text ∷ texts)) ≡ None
 words_fail front text texts got = rw got refl
+
+-- the words so far, and those of the texts that are left
+module _ {X : Type 0} (view : X → List ℕ) (texts : List X) (i : ℕ) (d : X) (h : i < length texts) (front : List Word) (whole : Option (List Word))
+    (so_far : option_map (λ ws. front ++ ws) (words_spelled (map view (drop i texts))) ≡ whole) where
+  all_left : option_map (λ ws. front ++ ws) (words_spelled (view (get_or texts i d) ∷ map view (drop (suc i) texts))) ≡ whole
+  all_left = ap (λ ts. option_map (λ ws. front ++ ws) (words_spelled (map view ts))) (sym (drop-cons texts i d h)) ∙ so_far
+
+  pub words_next : (all : List Word) (w : Word) → word_of (view (get_or texts i d)) ≡ Some w → all ≡ front ++ w ∷ []
+      → option_map (λ ws. all ++ ws) (words_spelled (map view (drop (i + 1) texts))) ≡ whole
+  words_next all w got put =
+      ap₂ (λ (bs : List Word) (j : ℕ). option_map (λ ws. bs ++ ws) (words_spelled (map view (drop j texts)))) put (add-one i)
+      ∙ words_on front (view (get_or texts i d)) (map view (drop (suc i) texts)) w got ∙ all_left
+
+  pub words_stop : word_of (view (get_or texts i d)) ≡ None → None ≡ whole
+  words_stop got = sym (words_fail front (view (get_or texts i d)) (map view (drop (suc i) texts)) got) ∙ all_left
 
 nodes_step : (term : Reader NominalTerm) (b k : ℕ) (front : List (Node NominalTerm)) (p q : Unread) (n : Node NominalTerm) → read_node term p ≡ Ok (n, q)
     → with_front (front ++ n ∷ []) (read_nodes term b (k + children n) q) ≡ with_front front (read_nodes term (suc b) (suc k) p)

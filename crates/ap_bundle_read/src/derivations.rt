@@ -23,142 +23,127 @@ use ap_defs::outcomes::{ClauseUse, Derivation};
 use ap_defs::terms::{Name, Term};
 use std::alloc::Global;
 
-/// The first derivation, taken off.
-fn first_derivation(stack: &mut Vec<Derivation>) -> Option<Derivation>
-    ensures { option_map (λ d. (derivation_of d, stacked derivation_of stack.new.items)) result
-        ≡ forms.first (stacked derivation_of stack.old.items) }
+/// The first derivation, taken off, in a box.
+fn first_in_box(
+    alloc: Global,
+    stack: &mut Vec<Derivation>,
+) -> Result<Option<Box<Derivation>>, Memory>
+    ensures { IfOk result (λ r. option_map
+        (λ d. (derivation_of d.value, stacked derivation_of stack.new.items)) r
+        ≡ forms.first (stacked derivation_of stack.old.items)) }
 {
-    stack.pop()
+    match stack.pop() {
+        Some(first) => Ok(Some(Box::new(alloc, first)?)),
+        None => Ok(None),
+    }
 }
 
-/// A node above the first derivation, by what it makes of that in its box.
-fn left_onto(alloc: Global, stack: Vec<Derivation>) -> Result<Option<Vec<Derivation>>, Memory>
-    ensures { IfOk result (λ r. option_map (λ v. stacked derivation_of v.items) r
-        ≡ tree.over_first derivation.left (stacked derivation_of stack.items)) }
+/// A node over the first derivation.
+fn left_over(alloc: Global, stack: &mut Vec<Derivation>) -> Result<Option<Derivation>, Memory>
+    ensures { IfOk result (λ r.
+        option_map (λ d. derivation_of d ∷ stacked derivation_of stack.new.items) r
+        ≡ tree.over_first derivation.left (stacked derivation_of stack.old.items)) }
 {
-    let mut stack = stack;
-    let Some(child) = first_derivation(&mut stack) else {
-        return Ok(None);
-    };
-    let child = Box::new(alloc, child)?;
-    stack.push(Derivation::Left(child))?;
-    Ok(Some(stack))
+    match first_in_box(alloc, stack)? {
+        Some(child) => Ok(Some(Derivation::Left(child))),
+        None => Ok(None),
+    }
 }
 
-fn right_onto(alloc: Global, stack: Vec<Derivation>) -> Result<Option<Vec<Derivation>>, Memory>
-    ensures { IfOk result (λ r. option_map (λ v. stacked derivation_of v.items) r
-        ≡ tree.over_first derivation.right (stacked derivation_of stack.items)) }
+fn right_over(alloc: Global, stack: &mut Vec<Derivation>) -> Result<Option<Derivation>, Memory>
+    ensures { IfOk result (λ r.
+        option_map (λ d. derivation_of d ∷ stacked derivation_of stack.new.items) r
+        ≡ tree.over_first derivation.right (stacked derivation_of stack.old.items)) }
 {
-    let mut stack = stack;
-    let Some(child) = first_derivation(&mut stack) else {
-        return Ok(None);
-    };
-    let child = Box::new(alloc, child)?;
-    stack.push(Derivation::Right(child))?;
-    Ok(Some(stack))
+    match first_in_box(alloc, stack)? {
+        Some(child) => Ok(Some(Derivation::Right(child))),
+        None => Ok(None),
+    }
 }
 
-fn atom_onto(
+fn atom_over(
     alloc: Global,
     used: Box<ClauseUse>,
-    stack: Vec<Derivation>,
-) -> Result<Option<Vec<Derivation>>, Memory>
-    ensures { IfOk result (λ r. option_map (λ v. stacked derivation_of v.items) r
+    stack: &mut Vec<Derivation>,
+) -> Result<Option<Derivation>, Memory>
+    ensures { IfOk result (λ r.
+        option_map (λ d. derivation_of d ∷ stacked derivation_of stack.new.items) r
         ≡ tree.over_first
         (derivation.atom used.value.clause used.value.names (map term_of used.value.terms))
-        (stacked derivation_of stack.items)) }
+        (stacked derivation_of stack.old.items)) }
 {
-    let mut stack = stack;
-    let Some(body) = first_derivation(&mut stack) else {
-        return Ok(None);
-    };
-    let body = Box::new(alloc, body)?;
-    stack.push(Derivation::Atom(used, body))?;
-    Ok(Some(stack))
+    match first_in_box(alloc, stack)? {
+        Some(child) => Ok(Some(Derivation::Atom(used, child))),
+        None => Ok(None),
+    }
 }
 
-fn exists_onto(
+fn exists_over(
     alloc: Global,
     term: Box<Term>,
-    stack: Vec<Derivation>,
-) -> Result<Option<Vec<Derivation>>, Memory>
-    ensures { IfOk result (λ r. option_map (λ v. stacked derivation_of v.items) r
+    stack: &mut Vec<Derivation>,
+) -> Result<Option<Derivation>, Memory>
+    ensures { IfOk result (λ r.
+        option_map (λ d. derivation_of d ∷ stacked derivation_of stack.new.items) r
         ≡ tree.over_first (derivation.exists (term_of term.value))
-        (stacked derivation_of stack.items)) }
+        (stacked derivation_of stack.old.items)) }
 {
-    let mut stack = stack;
-    let Some(child) = first_derivation(&mut stack) else {
-        return Ok(None);
-    };
-    let child = Box::new(alloc, child)?;
-    stack.push(Derivation::Exists(term, child))?;
-    Ok(Some(stack))
+    match first_in_box(alloc, stack)? {
+        Some(child) => Ok(Some(Derivation::Exists(term, child))),
+        None => Ok(None),
+    }
 }
 
-fn new_onto(
+fn new_over(
     alloc: Global,
     name: Name,
-    stack: Vec<Derivation>,
-) -> Result<Option<Vec<Derivation>>, Memory>
-    ensures { IfOk result (λ r. option_map (λ v. stacked derivation_of v.items) r
-        ≡ tree.over_first (derivation.new name) (stacked derivation_of stack.items)) }
+    stack: &mut Vec<Derivation>,
+) -> Result<Option<Derivation>, Memory>
+    ensures { IfOk result (λ r.
+        option_map (λ d. derivation_of d ∷ stacked derivation_of stack.new.items) r
+        ≡ tree.over_first (derivation.new name) (stacked derivation_of stack.old.items)) }
 {
-    let mut stack = stack;
-    let Some(child) = first_derivation(&mut stack) else {
-        return Ok(None);
-    };
     let name = Box::new(alloc, name)?;
-    let child = Box::new(alloc, child)?;
-    stack.push(Derivation::New(name, child))?;
-    Ok(Some(stack))
+    match first_in_box(alloc, stack)? {
+        Some(child) => Ok(Some(Derivation::New(name, child))),
+        None => Ok(None),
+    }
 }
 
-fn both_onto(alloc: Global, stack: Vec<Derivation>) -> Result<Option<Vec<Derivation>>, Memory>
-    ensures { IfOk result (λ r. option_map (λ v. stacked derivation_of v.items) r
-        ≡ tree.over_two (stacked derivation_of stack.items)) }
+fn both_over(alloc: Global, stack: &mut Vec<Derivation>) -> Result<Option<Derivation>, Memory>
+    ensures { IfOk result (λ r.
+        option_map (λ d. derivation_of d ∷ stacked derivation_of stack.new.items) r
+        ≡ tree.over_two (stacked derivation_of stack.old.items)) }
 {
-    let mut stack = stack;
-    let Some(left) = first_derivation(&mut stack) else {
+    let Some(left) = first_in_box(alloc, stack)? else {
         return Ok(None);
     };
-    let Some(right) = first_derivation(&mut stack) else {
-        return Ok(None);
-    };
-    let left = Box::new(alloc, left)?;
-    let right = Box::new(alloc, right)?;
-    stack.push(Derivation::Both(left, right))?;
-    Ok(Some(stack))
+    match first_in_box(alloc, stack)? {
+        Some(right) => Ok(Some(Derivation::Both(left, right))),
+        None => Ok(None),
+    }
 }
 
-/// A derivation without children, before the others.
-fn leaf_onto(leaf: Derivation, stack: Vec<Derivation>) -> Result<Option<Vec<Derivation>>, Memory>
-    ensures { IfOk result (λ r. option_map (λ v. stacked derivation_of v.items) r
-        ≡ Some (derivation_of leaf ∷ stacked derivation_of stack.items)) }
-{
-    let mut stack = stack;
-    stack.push(leaf)?;
-    Ok(Some(stack))
-}
-
-/// A node before derivations, of which it takes its children.
-fn node_onto(
+/// The derivation that a node is over those on the stack, of which it takes its children.
+fn node_over(
     alloc: Global,
     node: Node,
-    stack: Vec<Derivation>,
-) -> Result<Option<Vec<Derivation>>, Memory>
-    ensures { IfOk result (λ r. option_map (λ v. stacked derivation_of v.items) r
-        ≡ tree.node_onto (node_of node) (stacked derivation_of stack.items)) }
+    stack: &mut Vec<Derivation>,
+) -> Result<Option<Derivation>, Memory>
+    ensures { IfOk result (λ r.
+        option_map (λ d. derivation_of d ∷ stacked derivation_of stack.new.items) r
+        ≡ tree.node_onto (node_of node) (stacked derivation_of stack.old.items)) }
 {
     match node {
-        Node::Atom(used) => atom_onto(alloc, used, stack),
-        Node::Eq => leaf_onto(Derivation::Eq, stack),
-        Node::Fresh => leaf_onto(Derivation::Fresh, stack),
-        Node::True => leaf_onto(Derivation::True, stack),
-        Node::And => both_onto(alloc, stack),
-        Node::Left => left_onto(alloc, stack),
-        Node::Right => right_onto(alloc, stack),
-        Node::Exists(term) => exists_onto(alloc, term, stack),
-        Node::New(name) => new_onto(alloc, name, stack),
+        Node::Atom(used) => atom_over(alloc, used, stack),
+        Node::Eq => Ok(Some(Derivation::Eq)),
+        Node::Fresh => Ok(Some(Derivation::Fresh)),
+        Node::True => Ok(Some(Derivation::True)),
+        Node::And => both_over(alloc, stack),
+        Node::Left => left_over(alloc, stack),
+        Node::Right => right_over(alloc, stack),
+        Node::Exists(term) => exists_over(alloc, term, stack),
+        Node::New(name) => new_over(alloc, name, stack),
     }
 }
 
@@ -171,8 +156,8 @@ fn derivation_from(alloc: Global, nodes: Vec<Node>) -> Result<Option<Derivation>
     let mut nodes = nodes;
     let mut stack = Vec::new(alloc);
     while let Some(node) = nodes.pop() {
-        match node_onto(alloc, node, stack)? {
-            Some(more) => stack = more,
+        match node_over(alloc, node, &mut stack)? {
+            Some(whole) => stack.push(whole)?,
             None => return Ok(None),
         }
         give_all_back(&mut nodes);

@@ -1,7 +1,8 @@
 // Terms in prefix form, read from the right. Terms wait on a stack, the last of it the first.
-ghost use Rattle.std.specs.Prelude.{◌≡◌, ◌∷◌, reverse, IfOk};
+ghost use Rattle.std.specs.Prelude.{◌≡◌, ◌∷◌, List as list, reverse, IfOk};
+ghost use Rattle.std.specs.Bool.{then_some};
 ghost use Rattle.std.specs.Option.{option_map};
-ghost use Rattle.ap_defs.specs.Terms.{term_of};
+ghost use Rattle.ap_defs.specs.Terms.{NominalTerm, abs, term_of};
 ghost use Rattle.ap_bundle.specs.Forms as spec;
 ghost use Rattle.ap_bundle_read.specs.Stacks.{stacked, term_forms};
 
@@ -10,137 +11,140 @@ use crate::room::give_back;
 use ap_bundle::words::{Letter, Word};
 use ap_defs::lists::Swaps;
 use ap_defs::memory::Memory;
-use ap_defs::terms::{Term, Var};
+use ap_defs::terms::{Name, Term, Var};
 use std::alloc::Global;
 
 /// The first term, taken off.
-pub(crate) fn first_term(terms: &mut Vec<Term>) -> Option<Term>
+fn first_term(terms: &mut Vec<Term>) -> Option<Term>
     ensures { option_map (λ t. (term_of t, stacked term_of terms.new.items)) result
         ≡ spec.first (stacked term_of terms.old.items) }
 {
     terms.pop()
 }
 
-/// The terms, with another before them, where no number is left.
-fn at_end(numbers: Vec<u64>, terms: Vec<Term>, first: Term) -> Result<Option<Vec<Term>>, Memory>
-    ensures { IfOk result (λ r. option_map (λ v. stacked term_of v.items) r
-        ≡ spec.if_no_number (term_of first ∷ stacked term_of terms.items) (reverse numbers.items)) }
+/// The first term, taken off, in a box.
+fn first_in_box(alloc: Global, terms: &mut Vec<Term>) -> Result<Option<Box<Term>>, Memory>
+    ensures { IfOk result (λ r. option_map
+        (λ t. (term_of t.value, stacked term_of terms.new.items)) r
+        ≡ spec.first (stacked term_of terms.old.items)) }
 {
-    if !numbers.is_empty() {
-        return Ok(None);
+    match first_term(terms) {
+        Some(first) => Ok(Some(Box::new(alloc, first)?)),
+        None => Ok(None),
     }
-    let mut terms = terms;
-    terms.push(first)?;
-    Ok(Some(terms))
+}
+
+/// The term, where no number is left.
+fn at_end(numbers: &[u64], term: Term) -> Option<Term>
+    ensures { (ts : list NominalTerm) → option_map (λ t. term_of t ∷ ts) result
+        ≡ spec.if_no_number (term_of term ∷ ts) (reverse numbers.now) }
+{
+    if numbers.is_empty() { Some(term) } else { None }
+}
+
+/// The abstraction of a name.
+fn abstraction(name: Name, body: Box<Term>) -> Term
+    ensures { term_of result ≡ abs name (term_of body.value) }
+{
+    Term::Abs(name.sort, name.num, body)
 }
 
 #[tactic(auto, unfolding(ap_bundle::specs::Forms::name_onto))]
-fn name_onto(numbers: Vec<u64>, terms: Vec<Term>) -> Result<Option<Vec<Term>>, Memory>
-    ensures { IfOk result (λ r. option_map (λ v. stacked term_of v.items) r
-        ≡ spec.name_onto (reverse numbers.items) (stacked term_of terms.items)) }
+fn name_onto(numbers: &mut Vec<u64>) -> Option<Term>
+    ensures { (ts : list NominalTerm) → option_map (λ t. term_of t ∷ ts) result
+        ≡ spec.name_onto (reverse numbers.old.items) ts }
 {
-    let mut numbers = numbers;
-    let Some(name) = a_name(&mut numbers) else {
-        return Ok(None);
-    };
-    at_end(numbers, terms, Term::Name(name))
+    let name = a_name(numbers)?;
+    at_end(numbers, Term::Name(name))
 }
 
 #[tactic(auto, unfolding(ap_bundle::specs::Forms::pair_onto))]
-fn pair_onto(
-    alloc: Global,
-    numbers: Vec<u64>,
-    terms: Vec<Term>,
-) -> Result<Option<Vec<Term>>, Memory>
-    ensures { IfOk result (λ r. option_map (λ v. stacked term_of v.items) r
-        ≡ spec.pair_onto (reverse numbers.items) (stacked term_of terms.items)) }
+fn pair_onto(alloc: Global, numbers: &[u64], terms: &mut Vec<Term>) -> Result<Option<Term>, Memory>
+    ensures { IfOk result (λ r. option_map (λ t. term_of t ∷ stacked term_of terms.new.items) r
+        ≡ spec.pair_onto (reverse numbers.now) (stacked term_of terms.old.items)) }
 {
-    let mut terms = terms;
-    let Some(left) = first_term(&mut terms) else {
+    let Some(left) = first_term(terms) else {
         return Ok(None);
     };
-    let Some(right) = first_term(&mut terms) else {
+    let Some(right) = first_term(terms) else {
         return Ok(None);
     };
     let right = Box::new(alloc, right)?;
     let left = Box::new(alloc, left)?;
-    at_end(numbers, terms, Term::Pair(left, right))
+    Ok(at_end(numbers, Term::Pair(left, right)))
 }
 
 #[tactic(auto, unfolding(ap_bundle::specs::Forms::app_onto))]
-fn app_onto(alloc: Global, numbers: Vec<u64>, terms: Vec<Term>) -> Result<Option<Vec<Term>>, Memory>
-    ensures { IfOk result (λ r. option_map (λ v. stacked term_of v.items) r
-        ≡ spec.app_onto (reverse numbers.items) (stacked term_of terms.items)) }
+fn app_onto(
+    alloc: Global,
+    numbers: &mut Vec<u64>,
+    terms: &mut Vec<Term>,
+) -> Result<Option<Term>, Memory>
+    ensures { IfOk result (λ r. option_map (λ t. term_of t ∷ stacked term_of terms.new.items) r
+        ≡ spec.app_onto (reverse numbers.old.items) (stacked term_of terms.old.items)) }
 {
-    let mut numbers = numbers;
-    let mut terms = terms;
-    let Some(constructor) = small(&mut numbers) else {
+    let Some(constructor) = small(numbers) else {
         return Ok(None);
     };
-    let Some(argument) = first_term(&mut terms) else {
+    let Some(argument) = first_in_box(alloc, terms)? else {
         return Ok(None);
     };
-    let argument = Box::new(alloc, argument)?;
-    at_end(numbers, terms, Term::App(constructor, argument))
+    Ok(at_end(numbers, Term::App(constructor, argument)))
 }
 
 #[tactic(auto, unfolding(ap_bundle::specs::Forms::abs_onto))]
-fn abs_onto(alloc: Global, numbers: Vec<u64>, terms: Vec<Term>) -> Result<Option<Vec<Term>>, Memory>
-    ensures { IfOk result (λ r. option_map (λ v. stacked term_of v.items) r
-        ≡ spec.abs_onto (reverse numbers.items) (stacked term_of terms.items)) }
+fn abs_onto(
+    alloc: Global,
+    numbers: &mut Vec<u64>,
+    terms: &mut Vec<Term>,
+) -> Result<Option<Term>, Memory>
+    ensures { IfOk result (λ r. option_map (λ t. term_of t ∷ stacked term_of terms.new.items) r
+        ≡ spec.abs_onto (reverse numbers.old.items) (stacked term_of terms.old.items)) }
 {
-    let mut numbers = numbers;
-    let mut terms = terms;
-    let Some(name) = a_name(&mut numbers) else {
+    let Some(name) = a_name(numbers) else {
         return Ok(None);
     };
-    let Some(body) = first_term(&mut terms) else {
+    let Some(body) = first_in_box(alloc, terms)? else {
         return Ok(None);
     };
-    let body = Box::new(alloc, body)?;
-    at_end(numbers, terms, Term::Abs(name.sort, name.num, body))
+    Ok(at_end(numbers, abstraction(name, body)))
 }
 
 #[tactic(auto, unfolding(ap_bundle::specs::Forms::susp_onto))]
-fn susp_onto(
-    alloc: Global,
-    numbers: Vec<u64>,
-    terms: Vec<Term>,
-) -> Result<Option<Vec<Term>>, Memory>
-    ensures { IfOk result (λ r. option_map (λ v. stacked term_of v.items) r
-        ≡ spec.susp_onto (reverse numbers.items) (stacked term_of terms.items)) }
+fn susp_onto(alloc: Global, numbers: &mut Vec<u64>) -> Result<Option<Term>, Memory>
+    ensures { (ts : list NominalTerm) → IfOk result (λ r. option_map (λ t. term_of t ∷ ts) r
+        ≡ spec.susp_onto (reverse numbers.old.items) ts) }
 {
-    let mut numbers = numbers;
-    let Some(count) = first_number(&mut numbers) else {
+    let Some(count) = first_number(numbers) else {
         return Ok(None);
     };
-    let Some(front) = swaps(alloc, count, &mut numbers)? else {
+    let Some(front) = swaps(alloc, count, numbers)? else {
         return Ok(None);
     };
-    let Some(num) = first_number(&mut numbers) else {
+    let Some(num) = first_number(numbers) else {
         return Ok(None);
     };
     let front = Swaps::of(alloc, front)?;
-    at_end(numbers, terms, Term::Susp(front, Var { num }))
+    Ok(at_end(numbers, Term::Susp(front, Var { num })))
 }
 
-/// A letter before numbers and terms: the term that it begins, and the other terms.
+/// A letter before numbers and terms: the term that it begins.
 fn term_onto(
     alloc: Global,
     letter: Letter,
-    numbers: Vec<u64>,
-    terms: Vec<Term>,
-) -> Result<Option<Vec<Term>>, Memory>
-    ensures { IfOk result (λ r. option_map (λ v. stacked term_of v.items) r
-        ≡ spec.term_onto letter (reverse numbers.items) (stacked term_of terms.items)) }
+    numbers: &mut Vec<u64>,
+    terms: &mut Vec<Term>,
+) -> Result<Option<Term>, Memory>
+    ensures { IfOk result (λ r. option_map (λ t. term_of t ∷ stacked term_of terms.new.items) r
+        ≡ spec.term_onto letter (reverse numbers.old.items) (stacked term_of terms.old.items)) }
 {
     match letter {
-        Letter::U => at_end(numbers, terms, Term::Unit),
-        Letter::N => name_onto(numbers, terms),
+        Letter::U => Ok(at_end(numbers, Term::Unit)),
+        Letter::N => Ok(name_onto(numbers)),
         Letter::P => pair_onto(alloc, numbers, terms),
         Letter::A => app_onto(alloc, numbers, terms),
         Letter::L => abs_onto(alloc, numbers, terms),
-        Letter::S => susp_onto(alloc, numbers, terms),
+        Letter::S => susp_onto(alloc, numbers),
         Letter::D | Letter::B => Ok(None),
     }
 }
@@ -152,25 +156,31 @@ struct TermForms {
     whole: Vec<Term>,
 }
 
-/// A word before numbers and terms.
-fn word_onto(alloc: Global, word: Word, terms: TermForms) -> Result<Option<TermForms>, Memory>
-    ensures { IfOk result (λ r. option_map term_forms r
-        ≡ spec.word_onto spec.term_onto word (term_forms terms)) }
+/// A letter before numbers and terms, or false where it begins none.
+fn letter_onto(alloc: Global, letter: Letter, terms: &mut TermForms) -> Result<bool, Memory>
+    ensures { IfOk result (λ yes. then_some yes (term_forms terms.new)
+        ≡ spec.word_onto spec.term_onto (Word.Letter letter) (term_forms terms.old)) }
 {
-    let TermForms { mut numbers, whole } = terms;
+    let Some(term) = term_onto(alloc, letter, &mut terms.numbers, &mut terms.whole)? else {
+        return Ok(false);
+    };
+    terms.numbers.clear();
+    terms.whole.push(term)?;
+    Ok(true)
+}
+
+/// A word before numbers and terms, or false where it is none of them.
+fn word_onto(alloc: Global, word: Word, terms: &mut TermForms) -> Result<bool, Memory>
+    ensures { IfOk result (λ yes. then_some yes (term_forms terms.new)
+        ≡ spec.word_onto spec.term_onto word (term_forms terms.old)) }
+{
     match word {
         Word::Number(number) => {
-            numbers.push(number)?;
-            Ok(Some(TermForms { numbers, whole }))
+            terms.numbers.push(number)?;
+            Ok(true)
         }
-        Word::Letter(letter) => match term_onto(alloc, letter, numbers, whole)? {
-            Some(whole) => Ok(Some(TermForms {
-                numbers: Vec::new(alloc),
-                whole,
-            })),
-            None => Ok(None),
-        },
-        Word::Node(_) | Word::Head(_) => Ok(None),
+        Word::Letter(letter) => letter_onto(alloc, letter, terms),
+        Word::Node(_) | Word::Head(_) => Ok(false),
     }
 }
 
@@ -199,9 +209,8 @@ pub(crate) fn term_from(alloc: Global, words: &[Word]) -> Result<Option<Term>, M
     let mut left = words.len();
     while left > 0 {
         left -= 1;
-        match word_onto(alloc, words[left], terms)? {
-            Some(more) => terms = more,
-            None => return Ok(None),
+        if !word_onto(alloc, words[left], &mut terms)? {
+            return Ok(None);
         }
         give_back(&mut terms.whole);
     }

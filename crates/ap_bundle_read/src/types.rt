@@ -1,7 +1,8 @@
 // Types in prefix form, read from the right. Types wait on a stack, the last of it the first.
-ghost use Rattle.std.specs.Prelude.{◌≡◌, ◌∷◌, reverse, IfOk};
+ghost use Rattle.std.specs.Prelude.{◌≡◌, ◌∷◌, List as list, reverse, IfOk};
+ghost use Rattle.std.specs.Bool.{then_some};
 ghost use Rattle.std.specs.Option.{option_map};
-ghost use Rattle.ap_defs.specs.Types.{type_of};
+ghost use Rattle.ap_defs.specs.Types.{NominalType, type_of};
 ghost use Rattle.ap_bundle.specs.Forms as spec;
 ghost use Rattle.ap_bundle_read.specs.Stacks.{stacked, type_forms};
 
@@ -13,112 +14,101 @@ use ap_defs::terms::Ty;
 use std::alloc::Global;
 use std::sync::Arc;
 
-/// The first type, taken off.
-fn first_type(types: &mut Vec<Ty>) -> Option<Ty>
-    ensures { option_map (λ t. (type_of t, stacked type_of types.new.items)) result
-        ≡ spec.first (stacked type_of types.old.items) }
+/// The first type, taken off, in a counted box.
+fn first_in_box(alloc: Global, types: &mut Vec<Ty>) -> Result<Option<Arc<Ty>>, Memory>
+    ensures { IfOk result (λ r. option_map
+        (λ t. (type_of t.value, stacked type_of types.new.items)) r
+        ≡ spec.first (stacked type_of types.old.items)) }
 {
-    types.pop()
+    match types.pop() {
+        Some(first) => Ok(Some(Arc::new(alloc, first)?)),
+        None => Ok(None),
+    }
 }
 
-/// The types, with another before them, where no number is left.
-fn at_end(numbers: Vec<u64>, types: Vec<Ty>, first: Ty) -> Result<Option<Vec<Ty>>, Memory>
-    ensures { IfOk result (λ r. option_map (λ v. stacked type_of v.items) r
-        ≡ spec.if_no_number (type_of first ∷ stacked type_of types.items) (reverse numbers.items)) }
+/// The type, where no number is left.
+fn at_end(numbers: &[u64], ty: Ty) -> Option<Ty>
+    ensures { (ts : list NominalType) → option_map (λ t. type_of t ∷ ts) result
+        ≡ spec.if_no_number (type_of ty ∷ ts) (reverse numbers.now) }
 {
-    if !numbers.is_empty() {
-        return Ok(None);
-    }
-    let mut types = types;
-    types.push(first)?;
-    Ok(Some(types))
+    if numbers.is_empty() { Some(ty) } else { None }
 }
 
 #[tactic(auto, unfolding(ap_bundle::specs::Forms::names_onto))]
-fn names_onto(numbers: Vec<u64>, types: Vec<Ty>) -> Result<Option<Vec<Ty>>, Memory>
-    ensures { IfOk result (λ r. option_map (λ v. stacked type_of v.items) r
-        ≡ spec.names_onto (reverse numbers.items) (stacked type_of types.items)) }
+fn names_onto(numbers: &mut Vec<u64>) -> Option<Ty>
+    ensures { (ts : list NominalType) → option_map (λ t. type_of t ∷ ts) result
+        ≡ spec.names_onto (reverse numbers.old.items) ts }
 {
-    let mut numbers = numbers;
-    let Some(sort) = small(&mut numbers) else {
-        return Ok(None);
-    };
-    at_end(numbers, types, Ty::Names(sort))
+    let sort = small(numbers)?;
+    at_end(numbers, Ty::Names(sort))
 }
 
 #[tactic(auto, unfolding(ap_bundle::specs::Forms::base_onto))]
-fn base_onto(numbers: Vec<u64>, types: Vec<Ty>) -> Result<Option<Vec<Ty>>, Memory>
-    ensures { IfOk result (λ r. option_map (λ v. stacked type_of v.items) r
-        ≡ spec.base_onto (reverse numbers.items) (stacked type_of types.items)) }
+fn base_onto(numbers: &mut Vec<u64>) -> Option<Ty>
+    ensures { (ts : list NominalType) → option_map (λ t. type_of t ∷ ts) result
+        ≡ spec.base_onto (reverse numbers.old.items) ts }
 {
-    let mut numbers = numbers;
-    let Some(base) = small(&mut numbers) else {
-        return Ok(None);
-    };
-    at_end(numbers, types, Ty::Base(base))
+    let base = small(numbers)?;
+    at_end(numbers, Ty::Base(base))
 }
 
 #[tactic(auto, unfolding(ap_bundle::specs::Forms::pair_type_onto))]
-fn pair_onto(alloc: Global, numbers: Vec<u64>, types: Vec<Ty>) -> Result<Option<Vec<Ty>>, Memory>
-    ensures { IfOk result (λ r. option_map (λ v. stacked type_of v.items) r
-        ≡ spec.pair_type_onto (reverse numbers.items) (stacked type_of types.items)) }
+fn pair_onto(alloc: Global, numbers: &[u64], types: &mut Vec<Ty>) -> Result<Option<Ty>, Memory>
+    ensures { IfOk result (λ r. option_map (λ t. type_of t ∷ stacked type_of types.new.items) r
+        ≡ spec.pair_type_onto (reverse numbers.now) (stacked type_of types.old.items)) }
 {
-    let mut types = types;
-    let Some(left) = first_type(&mut types) else {
+    let Some(left) = first_in_box(alloc, types)? else {
         return Ok(None);
     };
-    let Some(right) = first_type(&mut types) else {
+    let Some(right) = first_in_box(alloc, types)? else {
         return Ok(None);
     };
-    let left = Arc::new(alloc, left)?;
-    let right = Arc::new(alloc, right)?;
-    at_end(numbers, types, Ty::Pair(left, right))
+    Ok(at_end(numbers, Ty::Pair(left, right)))
 }
 
 #[tactic(auto, unfolding(ap_bundle::specs::Forms::list_onto))]
-fn list_onto(alloc: Global, numbers: Vec<u64>, types: Vec<Ty>) -> Result<Option<Vec<Ty>>, Memory>
-    ensures { IfOk result (λ r. option_map (λ v. stacked type_of v.items) r
-        ≡ spec.list_onto (reverse numbers.items) (stacked type_of types.items)) }
+fn list_onto(alloc: Global, numbers: &[u64], types: &mut Vec<Ty>) -> Result<Option<Ty>, Memory>
+    ensures { IfOk result (λ r. option_map (λ t. type_of t ∷ stacked type_of types.new.items) r
+        ≡ spec.list_onto (reverse numbers.now) (stacked type_of types.old.items)) }
 {
-    let mut types = types;
-    let Some(element) = first_type(&mut types) else {
+    let Some(element) = first_in_box(alloc, types)? else {
         return Ok(None);
     };
-    let element = Arc::new(alloc, element)?;
-    at_end(numbers, types, Ty::List(element))
+    Ok(at_end(numbers, Ty::List(element)))
 }
 
 #[tactic(auto, unfolding(ap_bundle::specs::Forms::abs_type_onto))]
-fn abs_onto(alloc: Global, numbers: Vec<u64>, types: Vec<Ty>) -> Result<Option<Vec<Ty>>, Memory>
-    ensures { IfOk result (λ r. option_map (λ v. stacked type_of v.items) r
-        ≡ spec.abs_type_onto (reverse numbers.items) (stacked type_of types.items)) }
+fn abs_onto(
+    alloc: Global,
+    numbers: &mut Vec<u64>,
+    types: &mut Vec<Ty>,
+) -> Result<Option<Ty>, Memory>
+    ensures { IfOk result (λ r. option_map (λ t. type_of t ∷ stacked type_of types.new.items) r
+        ≡ spec.abs_type_onto (reverse numbers.old.items) (stacked type_of types.old.items)) }
 {
-    let mut numbers = numbers;
-    let mut types = types;
-    let Some(sort) = small(&mut numbers) else {
+    let Some(sort) = small(numbers) else {
         return Ok(None);
     };
-    let Some(body) = first_type(&mut types) else {
+    let Some(body) = first_in_box(alloc, types)? else {
         return Ok(None);
     };
-    let body = Arc::new(alloc, body)?;
-    at_end(numbers, types, Ty::Abs(sort, body))
+    Ok(at_end(numbers, Ty::Abs(sort, body)))
 }
 
-/// A letter before numbers and types: the type that it begins, and the other types.
+/// A letter before numbers and types: the type that it begins.
 fn type_onto(
     alloc: Global,
     letter: Letter,
-    numbers: Vec<u64>,
-    types: Vec<Ty>,
-) -> Result<Option<Vec<Ty>>, Memory>
-    ensures { IfOk result (λ r. option_map (λ v. stacked type_of v.items) r
-        ≡ spec.type_onto letter (reverse numbers.items) (stacked type_of types.items)) }
+    numbers: &mut Vec<u64>,
+    types: &mut Vec<Ty>,
+) -> Result<Option<Ty>, Memory>
+    ensures { IfOk result (λ r. option_map (λ t. type_of t ∷ stacked type_of types.new.items) r
+        ≡ spec.type_onto letter (reverse numbers.old.items) (stacked type_of types.old.items)) }
 {
     match letter {
-        Letter::U => at_end(numbers, types, Ty::Unit),
-        Letter::N => names_onto(numbers, types),
-        Letter::D => base_onto(numbers, types),
+        Letter::U => Ok(at_end(numbers, Ty::Unit)),
+        Letter::N => Ok(names_onto(numbers)),
+        Letter::D => Ok(base_onto(numbers)),
         Letter::P => pair_onto(alloc, numbers, types),
         Letter::L => list_onto(alloc, numbers, types),
         Letter::B => abs_onto(alloc, numbers, types),
@@ -133,25 +123,31 @@ struct TypeForms {
     whole: Vec<Ty>,
 }
 
-/// A word before numbers and types.
-fn word_onto(alloc: Global, word: Word, types: TypeForms) -> Result<Option<TypeForms>, Memory>
-    ensures { IfOk result (λ r. option_map type_forms r
-        ≡ spec.word_onto spec.type_onto word (type_forms types)) }
+/// A letter before numbers and types, or false where it begins none.
+fn letter_onto(alloc: Global, letter: Letter, types: &mut TypeForms) -> Result<bool, Memory>
+    ensures { IfOk result (λ yes. then_some yes (type_forms types.new)
+        ≡ spec.word_onto spec.type_onto (Word.Letter letter) (type_forms types.old)) }
 {
-    let TypeForms { mut numbers, whole } = types;
+    let Some(ty) = type_onto(alloc, letter, &mut types.numbers, &mut types.whole)? else {
+        return Ok(false);
+    };
+    types.numbers.clear();
+    types.whole.push(ty)?;
+    Ok(true)
+}
+
+/// A word before numbers and types, or false where it is none of them.
+fn word_onto(alloc: Global, word: Word, types: &mut TypeForms) -> Result<bool, Memory>
+    ensures { IfOk result (λ yes. then_some yes (type_forms types.new)
+        ≡ spec.word_onto spec.type_onto word (type_forms types.old)) }
+{
     match word {
         Word::Number(number) => {
-            numbers.push(number)?;
-            Ok(Some(TypeForms { numbers, whole }))
+            types.numbers.push(number)?;
+            Ok(true)
         }
-        Word::Letter(letter) => match type_onto(alloc, letter, numbers, whole)? {
-            Some(whole) => Ok(Some(TypeForms {
-                numbers: Vec::new(alloc),
-                whole,
-            })),
-            None => Ok(None),
-        },
-        Word::Node(_) | Word::Head(_) => Ok(None),
+        Word::Letter(letter) => letter_onto(alloc, letter, types),
+        Word::Node(_) | Word::Head(_) => Ok(false),
     }
 }
 
@@ -180,9 +176,8 @@ pub(crate) fn type_from(alloc: Global, words: &[Word]) -> Result<Option<Ty>, Mem
     let mut left = words.len();
     while left > 0 {
         left -= 1;
-        match word_onto(alloc, words[left], types)? {
-            Some(more) => types = more,
-            None => return Ok(None),
+        if !word_onto(alloc, words[left], &mut types)? {
+            return Ok(None);
         }
         give_back(&mut types.whole);
     }

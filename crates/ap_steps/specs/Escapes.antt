@@ -8,7 +8,7 @@ in_place_of [] b = b ∷ []
 in_place_of (c ∷ cs) b = c ∷ cs
 
 -- in HTML: in place of `&`, `<`, `>`, `"` and `'`
-abbrev pub html_mark : ℕ → List ℕ
+unfoldable pub html_mark : ℕ → List ℕ
 html_mark b =
     if b == 38 then codes "&amp;"
     else (if b == 60 then codes "&lt;"
@@ -18,7 +18,7 @@ html_mark b =
     else []))))
 
 -- in LaTeX: in place of `\`, `{`, `}`, `#`, `$`, `%`, `&`, `_`, `~`, `^`, `'` and a backquote; a line may break behind a comma
-abbrev pub latex_mark : ℕ → List ℕ
+unfoldable pub latex_mark : ℕ → List ℕ
 latex_mark b =
     if b == 92 then codes "\\textbackslash{}"
     else (if b == 123 then codes "\\{"

@@ -17,15 +17,15 @@ latex_side_texts [] = []
 latex_side_texts (s ∷ ss) = codes "; " ++ latex_escaped s.text ++ latex_side_texts ss
 
 -- the rule of a step and the judgement, each in braces
-abbrev pub saying : Step → List ℕ
+unfoldable pub saying : Step → List ℕ
 saying s = codes "{" ++ latex_escaped s.rule ++ latex_side_texts s.sides ++ codes "}{" ++ latex_escaped s.judgement.text ++ codes "}"
 
 -- the end of so many trees, and what stands between two trees, where one ends
-abbrev pub latex_between : ℕ → List ℕ
+unfoldable pub latex_between : ℕ → List ℕ
 latex_between ends = repeated ends (codes "}") ++ (if ends == 0 then [] else codes " \\\\")
 
 -- the rule of a step where so many are open, and how many are open behind it
-abbrev pub node : ℕ → Step → List ℕ
+unfoldable pub node : ℕ → Step → List ℕ
 node levels s = latex_between (levels - min levels s.depth) ++ codes "\n\\derive" ++ saying s ++ codes "{"
 
 abbrev pub latex_opened : ℕ → Step → ℕ
@@ -37,7 +37,7 @@ tree levels [] = repeated levels (codes "}")
 tree levels (s ∷ ss) = node levels s ++ tree (latex_opened levels s) ss
 
 -- a step of a list: to a height of 30 it is indented
-abbrev pub item : Step → List ℕ
+unfoldable pub item : Step → List ℕ
 item s = codes "\\step{" ++ decimal (min s.depth 30) ++ codes "}{" ++ depth_note 30 s.depth ++ codes "}" ++ saying s ++ codes "\n"
 
 abbrev pub latex_items : List Step → List ℕ
@@ -45,11 +45,11 @@ latex_items [] = []
 latex_items (s ∷ ss) = item s ++ latex_items ss
 
 -- a tree that a page holds
-abbrev pub page : List Step → List ℕ
+unfoldable pub page : List Step → List ℕ
 page steps = codes "\\derivation{" ++ (tree 0 steps ++ codes "}\n")
 
 -- TeX measures no more than some 3000 letters beside one another: a longer tree comes as a list
-abbrev pub short_page : List Step → List ℕ
+unfoldable pub short_page : List Step → List ℕ
 short_page steps = if nat_lt 2800 (length (page steps)) then latex_items steps else page steps
 
 abbrev pub steps_text : List Step → List ℕ

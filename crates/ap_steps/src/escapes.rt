@@ -6,6 +6,7 @@ ghost use Rattle.ap_steps.specs.Escapes as spec;
 use ap_defs::memory::Memory;
 
 /// What HTML has in place of a byte, or nothing, where the byte stands for itself.
+#[tactic(auto, unfolding(crate::specs::Escapes::html_mark))]
 fn html_mark(byte: u8) -> &'static str
     ensures { result.now ≡ spec.html_mark byte }
 {
@@ -21,6 +22,7 @@ fn html_mark(byte: u8) -> &'static str
 
 /// What LaTeX has in place of a byte, or nothing, where the byte stands for itself. A line may break behind
 /// a comma.
+#[tactic(auto, unfolding(crate::specs::Escapes::latex_mark))]
 fn latex_mark(byte: u8) -> &'static str
     ensures { result.now ≡ spec.latex_mark byte }
 {

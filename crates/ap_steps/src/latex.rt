@@ -48,6 +48,7 @@ fn write_sides(out: &mut Vec<u8>, sides: &[Phrase]) -> Result<(), Memory>
 }
 
 /// Writes the rule of a step and the judgement, each in braces.
+#[tactic(auto, unfolding(crate::specs::Latex::saying))]
 fn write_saying(out: &mut Vec<u8>, step: &Step) -> Result<(), Memory>
     ensures { OnOk result (out.new.items ≡ out.old.items ++ spec.saying step.now) }
 {
@@ -61,6 +62,7 @@ fn write_saying(out: &mut Vec<u8>, step: &Step) -> Result<(), Memory>
 }
 
 /// Writes the end of so many trees, and what stands between two trees, where one ends.
+#[tactic(auto, unfolding(crate::specs::Latex::latex_between))]
 fn write_between(out: &mut Vec<u8>, ends: usize) -> Result<(), Memory>
     ensures { OnOk result (out.new.items ≡ out.old.items ++ spec.latex_between ends) }
 {
@@ -72,6 +74,7 @@ fn write_between(out: &mut Vec<u8>, ends: usize) -> Result<(), Memory>
 }
 
 /// Writes the rule of a step where so many are open, and tells how many are open behind it.
+#[tactic(auto, unfolding(crate::specs::Latex::node))]
 fn write_node(out: &mut Vec<u8>, levels: usize, step: &Step) -> Result<usize, Memory>
     requires { levels < 2 ^ 63 }
     ensures written { OnOk result (out.new.items ≡ out.old.items ++ spec.node levels step.now) }
@@ -99,6 +102,7 @@ fn write_tree(out: &mut Vec<u8>, steps: &[Step]) -> Result<(), Memory>
 }
 
 /// Writes a step of a list.
+#[tactic(auto, unfolding(crate::specs::Latex::item))]
 fn write_item(alloc: Global, out: &mut Vec<u8>, step: &Step) -> Result<(), Memory>
     ensures { OnOk result (out.new.items ≡ out.old.items ++ spec.item step.now) }
 {
@@ -133,6 +137,7 @@ fn write_page(out: &mut Vec<u8>, steps: &[Step]) -> Result<(), Memory>
 }
 
 /// Writes steps as a tree of rules where that is short, and else as a list.
+#[tactic(auto, unfolding(crate::specs::Latex::short_page))]
 fn write_short_page(alloc: Global, out: &mut Vec<u8>, steps: &[Step]) -> Result<(), Memory>
     ensures { OnOk result (out.new.items ≡ out.old.items ++ spec.short_page steps.now) }
 {

@@ -4,8 +4,8 @@ use Rattle.ap_bundle.specs.Forms.{form, forms, type_onto}
 use Rattle.ap_bundle_read.proofs.LoopLemmas.{forms_none}
 use Rattle.ap_bundle_read.proofs.types.type_from.Goals as goal
 
-pub returns-in-None : goal.returns-in-None
+pub returns-then-not-branch : goal.returns-then-not-branch
 unfolding form
-returns-in-None c =
+returns-then-not-branch c =
     let none : forms type_onto (drop (c.loop-left.left - 1) c.args.words.now) ≡ None = grind (arith, common_steps) in
     rw (forms_none type_onto (c.loop-left.left - 1) c.args.words.now none) refl

@@ -1,9 +1,10 @@
 use Rattle.std.proofs.Common.{List, ◌++◌, ℕ, ap, ◌∙◌, append_assoc}
 use Rattle.std.specs.Prelude.{codes}
-use Rattle.ap_steps.specs.Latex.{tree}
+use Rattle.ap_steps.specs.Latex.{page, tree}
 use Rattle.ap_steps.proofs.latex.write_page.Goals as goal
 
 pub returns : goal.returns
+unfolding page
 returns c =
     let old = c.args.out.now.items in
     let rules = tree 0 c.args.steps.now in
