@@ -42,7 +42,6 @@ mod reading;
 mod renamed;
 mod round;
 mod searched;
-mod shapes;
 mod shown;
 mod spelling;
 mod streams;

@@ -7,13 +7,13 @@ use std::alloc::Global;
 
 /// A text: what it begins with, an opening so often, what is in the middle, a closing as often, and its end.
 #[derive(Clone, Copy)]
-pub struct Nest<'a> {
-    pub count: u32,
-    pub before: &'a str,
-    pub opening: &'a str,
-    pub middle: &'a str,
-    pub closing: &'a str,
-    pub behind: &'a str,
+struct Nest<'a> {
+    count: u32,
+    before: &'a str,
+    opening: &'a str,
+    middle: &'a str,
+    closing: &'a str,
+    behind: &'a str,
 }
 
 /// The text that a line tells of: the count and the five parts have a `~` between each two.
@@ -37,8 +37,9 @@ fn put_often(out: &mut Spelling, count: u32, text: &str, end: &str) {
     out.put(end);
 }
 
-/// The text that is told of.
-pub fn nested_text(alloc: Global, nest: &Nest<'_>) -> Spelling {
+/// The text that a line tells of.
+pub fn nested_text(alloc: Global, line: &str) -> Spelling {
+    let nest = nest_of(line);
     let mut out = Spelling::new(alloc);
     out.put(nest.before);
     put_often(&mut out, nest.count, nest.opening, nest.middle);
@@ -48,7 +49,7 @@ pub fn nested_text(alloc: Global, nest: &Nest<'_>) -> Spelling {
 
 /// Tells that the text is read that a line tells of.
 pub fn put_nest(out: &mut Spelling, line: &str) -> Result<(), SynError> {
-    let text = nested_text(out.alloc(), &nest_of(line));
+    let text = nested_text(out.alloc(), line);
     let tokens = tokens_of(out.alloc(), text.text().as_bytes())?;
     let _items = items_of(out.alloc(), &tokens)?;
     out.put("read");

@@ -157,7 +157,7 @@ pub const PARTS: [(Part, &str, &str); 104] = [
     (Part::Read(Kind::Part), "read", "written"),
     (Part::Read(Kind::Nest), "read", "nested"),
     (Part::Read(Kind::Typed), "read", "typed"),
-    (Part::Round, ".", ""),
+    (Part::Round, "read", "large"),
     (Part::Explained, "explained", "mistakes.cases"),
     (Part::Explained, "explained", "characters.cases"),
     (Part::Explained, "explained", "grammar.cases"),
@@ -239,6 +239,7 @@ fn write_text<R: Threads + Wait + Sync>(
         }
         Part::Prefixes => tell_prefixes(rt, out, name, text),
         Part::Read(kind) => read_texts(out, kind, name, text),
+        Part::Round => go_round(out, text),
         Part::Explained => explain_texts(out, name, text),
         Part::Shown(format) => show(out, format, name, text),
         Part::Pages => show_pages(out, name, text),
@@ -259,7 +260,6 @@ pub fn write_part<R: Threads + Wait + Sync + AllocGlobal + Files + Print>(
         Part::Folder(task) => go_through_folder(rt, out, task, folder),
         Part::Streams => run_commands(rt, out, folder),
         Part::Bundles => tell_bundles(rt, out),
-        Part::Round => go_round(out),
         Part::Bytes => explain_bytes(out),
         Part::Measure => measure(rt, out, name),
         _ => {
