@@ -3,7 +3,6 @@
 use crate::reading::{items_of, tokens_of};
 use crate::spelling::Spelling;
 use ap_syntax::SynError;
-use std::alloc::Global;
 
 /// A text: what it begins with, an opening so often, what is in the middle, a closing as often, and its end.
 #[derive(Clone, Copy)]
@@ -16,11 +15,11 @@ struct Nest<'a> {
     behind: &'a str,
 }
 
-/// The text that a line tells of: the count and the five parts have a `~` between each two.
-fn nest_of(line: &str) -> Nest<'_> {
+/// What a line tells of: the count and the five parts have a `~` between each two.
+fn nest_of<'a>(out: &mut Spelling, line: &'a str) -> Nest<'a> {
     let mut words = line.split('~');
     Nest {
-        count: words.next().unwrap_or("").parse::<u32>().unwrap_or(0),
+        count: out.number(words.next().unwrap_or("")),
         before: words.next().unwrap_or(""),
         opening: words.next().unwrap_or(""),
         middle: words.next().unwrap_or(""),
@@ -38,19 +37,19 @@ fn put_often(out: &mut Spelling, count: u32, text: &str, end: &str) {
 }
 
 /// The text that a line tells of.
-pub fn nested_text(alloc: Global, line: &str) -> Spelling {
-    let nest = nest_of(line);
-    let mut out = Spelling::new(alloc);
-    out.put(nest.before);
-    put_often(&mut out, nest.count, nest.opening, nest.middle);
-    put_often(&mut out, nest.count, nest.closing, nest.behind);
-    out
+pub fn nested_text(out: &mut Spelling, line: &str) -> String {
+    let nest = nest_of(out, line);
+    let mut text = Spelling::new(out.alloc());
+    text.put(nest.before);
+    put_often(&mut text, nest.count, nest.opening, nest.middle);
+    put_often(&mut text, nest.count, nest.closing, nest.behind);
+    out.taken(text)
 }
 
 /// Tells that the text is read that a line tells of.
 pub fn put_nest(out: &mut Spelling, line: &str) -> Result<(), SynError> {
-    let text = nested_text(out.alloc(), line);
-    let tokens = tokens_of(out.alloc(), text.text().as_bytes())?;
+    let text = nested_text(out, line);
+    let tokens = tokens_of(out.alloc(), text.as_bytes())?;
     let _items = items_of(out.alloc(), &tokens)?;
     out.put("read");
     Ok(())

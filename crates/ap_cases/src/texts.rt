@@ -7,15 +7,15 @@
 use crate::files::DIVIDER;
 use crate::nested::nested_text;
 use crate::round::round_of;
-use crate::shown::{Kind, put_shown};
+use crate::shown::{Reading, put_shown};
 use crate::spelling::Spelling;
 
 /// Tells each text of a file, and what it is read as.
-pub fn read_texts(out: &mut Spelling, kind: Kind, name: &str, all: &str) {
+pub fn read_texts(out: &mut Spelling, reading: Reading, name: &str, all: &str) {
     out.put_all(&["% ", name, "\n"]);
     for text in all.trim_end().split(DIVIDER) {
         out.put_all(&[text, "\n"]);
-        put_shown(out, kind, text);
+        put_shown(out, reading, text);
         out.put("\n");
     }
 }
@@ -24,8 +24,8 @@ pub fn read_texts(out: &mut Spelling, kind: Kind, name: &str, all: &str) {
 pub fn go_round(out: &mut Spelling, all: &str) {
     for line in all.lines() {
         if let Some((name, told)) = line.split_once(": ") {
-            let goal = nested_text(out.alloc(), told);
-            let outcome = round_of(out, goal.text());
+            let goal = nested_text(out, told);
+            let outcome = round_of(out, &goal);
             out.put_all(&[name, ": ", outcome.text(), "\n"]);
         }
     }
