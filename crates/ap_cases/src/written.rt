@@ -76,7 +76,9 @@ pub fn part_of(alloc: Global, text: &str) -> Result<Option<(Piece, Vec<u8>)>, Sy
 /// Whether an item with this part reads as a text does.
 fn reads_same(alloc: Global, text: &str, part: Piece, written: &str) -> Result<bool, SynError> {
     let item = item_of(alloc, part, written)?;
-    Ok(items_told(alloc, text)? == items_told(alloc, &item)?)
+    let first = items_told(alloc, text)?;
+    let second = items_told(alloc, &item)?;
+    Ok(first.as_str() == second.as_str())
 }
 
 /// Tells what is written of the part of a text's item, if it is read as the same again.
