@@ -26,7 +26,8 @@ pub fn go_round(out: &mut Spelling, all: &str) {
         if let Some((name, told)) = line.split_once(": ") {
             let goal = nested_text(out, told);
             let outcome = round_of(out, &goal);
-            out.put_all(&[name, ": ", outcome.text(), "\n"]);
+            out.put_all(&[name, ": "]);
+            out.put_all(&[outcome.text(), "\n"]);
         }
     }
 }
