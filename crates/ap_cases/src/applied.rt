@@ -4,7 +4,7 @@ use ap_coverer::Covered;
 use ap_defs::goals::{Kind, Local};
 use ap_defs::memory::Memory;
 use ap_defs::outcomes::Answer;
-use ap_defs::terms::{Cond, Ground, Name, Swap, Term, Var};
+use ap_defs::terms::{Cond, Ground, Name, Swap, Term, Ty, Var};
 use ap_perm::swappings::image;
 use ap_values::ground::{alpha_eq, fresh_ground};
 use std::alloc::Global;
@@ -44,7 +44,8 @@ fn paired(
     }
 }
 
-/// A term without variables on which swappings act. A variable would be unit.
+/// A term without variables on which swappings act. A variable would be unit. This recurses by the height of the term,
+/// which no answer of these cases that is a ground proof makes great.
 fn moved(alloc: Global, swaps: &[Swap], term: &Term) -> Result<Ground, Memory> {
     match term {
         Term::Unit | Term::Susp(_, _) => Ok(Ground::Unit),
@@ -118,8 +119,20 @@ fn applied(
     }
 }
 
-/// Whether each term, with the names replaced and ground terms for the variables, is the one beside it, up to the
-/// names of binders.
+/// Whether a term, with the names replaced and ground terms for the variables, is another up to the names of binders.
+fn is_equal(
+    alloc: Global,
+    swaps: &[Swap],
+    grounding: &[(Var, Term)],
+    term: &Term,
+    proved: &Term,
+) -> Result<bool, Memory> {
+    let made = applied(alloc, swaps, grounding, term)?;
+    let wanted = moved(alloc, &[], proved)?;
+    alpha_eq(alloc, &made, &wanted)
+}
+
+/// Whether each term is the one beside it, so replaced.
 fn are_equal(
     alloc: Global,
     swaps: &[Swap],
@@ -128,9 +141,7 @@ fn are_equal(
     proved: &[Term],
 ) -> Result<bool, Memory> {
     for (term, beside) in terms.iter().zip(proved.iter()) {
-        let made = applied(alloc, swaps, grounding, term)?;
-        let wanted = moved(alloc, &[], beside)?;
-        if !alpha_eq(alloc, &made, &wanted)? {
+        if !is_equal(alloc, swaps, grounding, term, beside)? {
             return Ok(false);
         }
     }
@@ -168,6 +179,30 @@ fn leave_names(swaps: &[Swap], locals: &[Local]) -> bool {
     true
 }
 
+/// Whether ground terms are given for an answer's variables, one by one.
+fn are_given(grounding: &[(Var, Term)], vars: &[(Var, Ty)]) -> bool {
+    for (given, var) in grounding.iter().zip(vars.iter()) {
+        if given.0 != var.0 {
+            return false;
+        }
+    }
+    grounding.len() == vars.len()
+}
+
+/// Whether swappings and ground terms take an answer to what is proved.
+fn take_to(
+    alloc: Global,
+    swaps: &[Swap],
+    grounding: &[(Var, Term)],
+    answer: &Answer,
+    proved: &[Term],
+) -> Result<bool, Memory> {
+    if !are_equal(alloc, swaps, grounding, answer.binds.items(), proved)? {
+        return Ok(false);
+    }
+    are_met(alloc, swaps, grounding, answer.conds.items())
+}
+
 /// Whether what is given covers what is proved by an answer to a query with these identifiers.
 pub fn covers(
     alloc: Global,
@@ -185,11 +220,10 @@ pub fn covers(
         } => {
             let swaps = swaps.items();
             let grounding = grounding.items();
-            let given = grounding.iter().map(|pair| pair.0);
-            let is_whole = given.eq(answer.vars.items().iter().map(|pair| pair.0));
-            let equal = are_equal(alloc, swaps, grounding, answer.binds.items(), proved)?;
-            let met = are_met(alloc, swaps, grounding, answer.conds.items())?;
-            Ok(is_whole && equal && met && leave_names(swaps, locals))
+            if !are_given(grounding, answer.vars.items()) || !leave_names(swaps, locals) {
+                return Ok(false);
+            }
+            take_to(alloc, swaps, grounding, answer, proved)
         }
     }
 }

@@ -61,8 +61,9 @@ fn tell_verdicts(out: &mut Spelling, program: &Restricted, all: &[Proved]) {
 /// Tells what each derivation of a bundle comes to, if its text has no fault.
 fn tell_derivations(out: &mut Spelling, bundle: &Bundle) {
     match program_of(out.alloc(), bundle.text.items()) {
-        Ok(program) => tell_verdicts(out, &program, bundle.proved.items()),
-        Err(Memory) => {}
+        Ok(Some(program)) => tell_verdicts(out, &program, bundle.proved.items()),
+        Ok(None) => {}
+        Err(Memory) => out.lose(),
     }
 }
 

@@ -8,10 +8,10 @@ use std::alloc::{AllocError, Global};
 use std::sync::Wait;
 use std::thread::Threads;
 
-// The bytes that a sink has room for: the largest bundle that is made here has 3,459,659.
+/// The bytes that a sink has room for: the largest bundle that is made here has 3,459,659.
 const ROOM: usize = 1 << 22;
 
-// A gate that holds no worker. It says that it may, so that several workers are started for a short search too.
+/// A gate that holds no worker. It says that it may, so that several workers are started for a short search too.
 struct Starts;
 
 impl Gate for Starts {

@@ -23,6 +23,7 @@ use ap_program::restricted::Restricted;
 use ap_replay::replay::at;
 use ap_shared::sharing::shared;
 use std::alloc::Global;
+use std::io::ErrorKind;
 
 /// What covers a proof, if it is one that the call takes.
 fn covered_by(alloc: Global, p: &Problem<'_>, proved: &Proved) -> Result<Option<Covered>, Memory>
@@ -210,11 +211,16 @@ fn calls_of(
     calls_in(out, depth, &index, proved)
 }
 
-/// The same for the proofs of a bundle.
+/// The same for the proofs of a bundle. Nothing is given for one whose text has a fault.
 fn calls_on(out: &mut Spelling, depth: u32, bytes: &[u8]) -> Result<bool, Memory> {
     let bundle = read_bundle(out.alloc(), bytes).or(Err(Memory))?;
-    let program = program_of(out.alloc(), bundle.text.items())?;
-    calls_of(out, depth, &program, bundle.proved.items())
+    match program_of(out.alloc(), bundle.text.items())? {
+        Some(program) => calls_of(out, depth, &program, bundle.proved.items()),
+        None => {
+            out.lose_by(ErrorKind::InvalidInput);
+            Ok(false)
+        }
+    }
 }
 
 /// Whether the call gives for each proof of a bundle an answer that covers it.
@@ -225,7 +231,7 @@ pub fn are_answered(alloc: Global, depth: u32, bytes: &[u8]) -> bool {
 
 /// Tells what the call gives for each proof of a bundle, which stands behind a line with a depth.
 pub fn call_all(out: &mut Spelling, depth: &str, bundle: &str) {
-    let depth = depth.parse::<u32>().unwrap_or(0);
+    let depth = out.number(depth);
     if calls_on(out, depth, bundle.as_bytes()).is_err() {
         out.lose();
     }

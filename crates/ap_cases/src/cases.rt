@@ -19,11 +19,10 @@ fn run<R: Threads + Wait + Sync>(
     begin: &str,
     end: &str,
 ) -> Tally {
-    let mut text = Spelling::new(out.alloc());
-    text.put_all(&[begin, end]);
+    let text = out.joined(&[begin, end]);
     out.put_all(&[end, "\n"]);
-    tell_by(rt, out, "run", depth, text.text().as_bytes(), &SEVERAL);
-    tally_of(rt, out, depth, text.text())
+    tell_by(rt, out, "run", depth, text.as_bytes(), &SEVERAL);
+    tally_of(rt, out, depth, &text)
 }
 
 /// Runs the texts of a file.
@@ -31,6 +30,7 @@ pub fn run_texts<R: Threads + Wait + Sync>(rt: &R, out: &mut Spelling, name: &st
     let mut parts = all.trim_end().split(DIVIDER);
     let depth = parts.next().unwrap_or("");
     let begin = parts.next().unwrap_or("");
+    // One row of these would mix what the name and the text lend: the borrow checker doesn't cover that.
     out.put("% ");
     out.put(name);
     out.put(", depth ");

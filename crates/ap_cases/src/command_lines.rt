@@ -45,7 +45,8 @@ fn run_often<R: Threads + Wait + Sync>(rt: &R, out: &mut Spelling, word: &str) {
     out.put("run and ");
     out.put_number(OFTEN as u64, " times ");
     out.put_all(&[word, "\n"]);
-    match words_in(out.alloc(), line.text()) {
+    let line = out.taken(line);
+    match words_in(out.alloc(), &line) {
         Ok(words) => answer_unread(rt, out, &words, TEXT.as_bytes()).tell(out),
         Err(_) => out.lose(),
     }
@@ -63,14 +64,10 @@ pub fn run_all_lines<R: Threads + Wait + Sync>(rt: &R, out: &mut Spelling, all: 
 /// Tells what the top call writes for the command line in the first line of a part, with the status. What stands behind
 /// that line is the input, a text or a bundle; where nothing does it is empty.
 pub fn run_command<R: Threads + Wait + Sync>(rt: &R, out: &mut Spelling, part: &str) {
-    let mut input = Spelling::new(out.alloc());
-    let line = match part.split_once('\n') {
-        Some((line, text)) => {
-            input.put_all(&[text, "\n"]);
-            line
-        }
-        None => part,
+    let (line, input) = match part.split_once('\n') {
+        Some((line, text)) => (line, out.joined(&[text, "\n"])),
+        None => (part, String::new(out.alloc())),
     };
     out.put_all(&[line, "\n"]);
-    answer_line(rt, out, line, input.text().as_bytes()).tell(out);
+    answer_line(rt, out, line, input.as_bytes()).tell(out);
 }

@@ -7,7 +7,7 @@
 
 use crate::bundles::versions_of;
 use crate::calls::are_answered;
-use crate::proving::{Written, are_written};
+use crate::proving::{Written, is_written};
 use crate::renamed::renamed;
 use crate::spelling::Spelling;
 use ap_bundle_read::read_bundle;
@@ -16,7 +16,6 @@ use ap_cover::path::path_of;
 use ap_defs::lists::List;
 use ap_defs::memory::Memory;
 use ap_defs::outcomes::{Bundle, Proved};
-use std::alloc::Global;
 use std::sync::Wait;
 use std::thread::Threads;
 
@@ -89,7 +88,7 @@ fn ground_proofs(lines: &mut Spelling, all: Vec<Proved>) -> Result<Vec<Proved>, 
 struct Grounds {
     count: usize,
     written: Written,
-    renamed: Spelling,
+    renamed: String,
 }
 
 /// The ground proofs of a text's bundle. Adds the lines that are wanted of them.
@@ -100,9 +99,9 @@ fn grounds_in(lines: &mut Spelling, bytes: &[u8]) -> Result<Bundle, Memory> {
 }
 
 /// Ground proofs, as they are written.
-fn grounds_of(alloc: Global, bundle: &Bundle) -> Result<Grounds, Memory> {
-    let written = versions_of(alloc, bundle)?;
-    let renamed = renamed(alloc, &written.full, bundle.text.items().len());
+fn grounds_of(lines: &mut Spelling, bundle: &Bundle) -> Result<Grounds, Memory> {
+    let written = versions_of(lines.alloc(), bundle)?;
+    let renamed = renamed(lines, &written.full, bundle.text.items().len());
     Ok(Grounds {
         count: bundle.proved.items().len(),
         written,
@@ -113,7 +112,7 @@ fn grounds_of(alloc: Global, bundle: &Bundle) -> Result<Grounds, Memory> {
 /// The ground proofs of a text's bundle, as they are written. Adds the lines that are wanted of them.
 fn read_grounds(lines: &mut Spelling, bytes: &[u8]) -> Result<Grounds, Memory> {
     let bundle = grounds_in(lines, bytes)?;
-    grounds_of(lines.alloc(), &bundle)
+    grounds_of(lines, &bundle)
 }
 
 /// Whether `cover` writes these lines of proofs, in both versions and with their names exchanged: that the answer covers
@@ -130,17 +129,13 @@ fn are_covered<R: Threads + Wait + Sync>(
         grounds.written.full.as_slice(),
         grounds.written.shared.as_slice(),
     );
-    let renamed = grounds.renamed.text().as_bytes();
+    let renamed = grounds.renamed.as_bytes();
     let alone: &[&str] = &["cover", "--depth", depth];
     let many: &[&str] = &["cover", "--depth", depth, "--workers", "8"];
-    let calls = [
-        (alone, full, wanted),
-        (many, shared, wanted),
-        (many, renamed, wanted),
-    ];
-    let number = depth.parse::<u32>().unwrap_or(0);
-    let written = are_written(rt, out, &calls);
-    written
+    let number = out.number(depth);
+    is_written(rt, out, alone, full, wanted)
+        && is_written(rt, out, many, shared, wanted)
+        && is_written(rt, out, many, renamed, wanted)
         && are_answered(out.alloc(), number, shared)
         && are_answered(out.alloc(), number, renamed)
 }
@@ -155,7 +150,8 @@ pub fn cover_bundle<R: Threads + Wait + Sync>(
     let mut lines = Spelling::new(out.alloc());
     match read_grounds(&mut lines, bytes) {
         Ok(found) => {
-            if found.count > 0 && !are_covered(rt, out, depth, lines.text(), &found) {
+            let lines = out.taken(lines);
+            if found.count > 0 && !are_covered(rt, out, depth, &lines, &found) {
                 out.put("% cover writes otherwise\n");
             }
             found.count

@@ -240,7 +240,7 @@ fn tally_in<R: Threads + Wait + Sync>(
     text: &str,
     program: &Restricted,
 ) -> Tally {
-    let number = depth.parse::<u32>().unwrap_or(1);
+    let number = out.number(depth);
     match checked_text(out.alloc(), text, program, number) {
         Ok(found) => tally_written(rt, out, depth, text.as_bytes(), &found),
         Err(Memory) => {
@@ -258,8 +258,12 @@ pub fn tally_of<R: Threads + Wait + Sync>(
     text: &str,
 ) -> Tally {
     match program_of(out.alloc(), text.as_bytes()) {
-        Ok(program) => tally_in(rt, out, depth, text, &program),
-        Err(Memory) => NONE,
+        Ok(Some(program)) => tally_in(rt, out, depth, text, &program),
+        Ok(None) => NONE,
+        Err(Memory) => {
+            out.lose();
+            NONE
+        }
     }
 }
 

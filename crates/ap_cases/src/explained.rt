@@ -14,7 +14,7 @@ use ap_defs::memory::Memory;
 use ap_explain::explain_text;
 use ap_remarks::{Tally, branch_remarks, warnings};
 
-// Texts that are not UTF-8.
+/// Texts that are not UTF-8.
 const BYTES: [&[u8]; 4] = [
     b"exp : type.\n\xFFz : exp.\n",
     b"exp : type. % \xE9\n",
@@ -22,7 +22,7 @@ const BYTES: [&[u8]; 4] = [
     b"z\xC3\xA9 : exp\xC3(",
 ];
 
-// Tells what is said beside the report of a text.
+/// Tells what is said beside the report of a text.
 fn put_remarks(out: &mut Spelling, text: &[u8]) -> Result<(), Memory>
     requires { length text.now ≤ size_limit }
 {
@@ -33,7 +33,7 @@ fn put_remarks(out: &mut Spelling, text: &[u8]) -> Result<(), Memory>
     Ok(())
 }
 
-// Tells what is written of a text.
+/// Adds what is written of a text: the message of its fault, or what is said beside its report.
 fn put_said(out: &mut Spelling, text: &[u8]) -> Result<(), Memory>
     requires { length text.now ≤ size_limit }
 {
@@ -45,7 +45,7 @@ fn put_said(out: &mut Spelling, text: &[u8]) -> Result<(), Memory>
     Ok(())
 }
 
-// Tells what is written of a text.
+/// Tells what is written of a text, and ends its line.
 fn explain(out: &mut Spelling, text: &[u8]) {
     if text.len() > SIZE_LIMIT || put_said(out, text).is_err() {
         out.lose();
@@ -60,9 +60,8 @@ pub fn explain_texts(out: &mut Spelling, name: &str, all: &str) {
     let begin = parts.next().unwrap_or("");
     for end in parts {
         out.put_all(&[end, "\n"]);
-        let mut text = Spelling::new(out.alloc());
-        text.put_all(&[begin, end]);
-        explain(out, text.text().as_bytes());
+        let text = out.joined(&[begin, end]);
+        explain(out, text.as_bytes());
     }
 }
 

@@ -12,11 +12,6 @@ use std::thread::Threads;
 /// The bytes that a sink has room for.
 const ROOM: usize = 4096;
 
-/// The number of a word.
-fn number_of(word: &str) -> u32 {
-    word.parse::<u32>().unwrap_or(0)
-}
-
 /// The number, or none for 0.
 fn numbers(alloc: Global, number: u32) -> Result<Vec<u64>, AllocError> {
     let mut all = Vec::new(alloc);
@@ -35,15 +30,17 @@ fn sink_of(alloc: Global, write: u32, most: u32) -> Result<MemSink, Memory> {
 /// What the top call answers where its read and its write fail that a row tells of.
 fn answer_by_row<R: Threads + Wait + Sync>(
     rt: &R,
-    alloc: Global,
+    out: &mut Spelling,
     words: &[String],
     text: &str,
     row: &str,
 ) -> Result<Answer, Memory> {
+    let alloc = out.alloc();
     let (read, rest) = row.split_once(' ').unwrap_or(("0", row));
     let (write, most) = rest.split_once(' ').unwrap_or(("0", rest));
-    let fails = numbers(alloc, number_of(read))?;
-    let sink = sink_of(alloc, number_of(write), number_of(most))?;
+    let fails = numbers(alloc, out.number(read))?;
+    let (write, most) = (out.number(write), out.number(most));
+    let sink = sink_of(alloc, write, most)?;
     called(rt, alloc, words, text.as_bytes(), fails, sink)
 }
 
@@ -56,7 +53,7 @@ fn run_row<R: Threads + Wait + Sync>(
     row: &str,
 ) {
     out.put_all(&[row, "\n"]);
-    match answer_by_row(rt, out.alloc(), words, text, row) {
+    match answer_by_row(rt, out, words, text, row) {
         Ok(answer) => answer.tell(out),
         Err(Memory) => out.lose(),
     }

@@ -14,12 +14,11 @@ pub fn text_of<R: AllocGlobal + Files>(
     folder: &str,
     name: &str,
 ) -> String {
-    let mut path = Spelling::new(out.alloc());
-    path.put_all(&[folder, "/", name]);
-    match fs::read_to_string(rt, path.text()) {
+    let path = out.joined(&[folder, "/", name]);
+    match fs::read_to_string(rt, &path) {
         Ok(text) => text,
-        Err(_) => {
-            out.lose();
+        Err(error) => {
+            out.lose_by(error.kind());
             String::new(out.alloc())
         }
     }

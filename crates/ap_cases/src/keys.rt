@@ -20,9 +20,9 @@ pub fn put_kids(
     pred: &str,
     keys: &str,
 ) -> Result<(), Memory> {
-    let number = pred.parse::<u32>().unwrap_or(0);
+    let number = out.number(pred);
     for word in keys.split(' ') {
-        let key = word.parse::<u64>().unwrap_or(0);
+        let key = out.long_number(word);
         let kids = kids_by(out.alloc(), index, number, key)?;
         out.put_all(&["predicate ", pred, ", key ", word, ": "]);
         out.put_numbers(&kids);

@@ -7,7 +7,6 @@
 
 use crate::call::{answer_line, put_status};
 use crate::spelling::Spelling;
-use std::alloc::Global;
 use std::sync::Wait;
 use std::thread::Threads;
 
@@ -27,22 +26,22 @@ fn put_numbered(text: &mut Spelling, line: &str, number: u32) {
 }
 
 /// Adds the line so often, each with its number.
-fn put_often(text: &mut Spelling, line: &str, count: u32) {
+fn put_each(text: &mut Spelling, line: &str, count: u32) {
     for number in 0..count {
         put_numbered(text, line, number);
     }
 }
 
 /// The text of a template, in which some lines stand so often.
-fn text_of(alloc: Global, count: u32, template: &str) -> Spelling {
-    let mut text = Spelling::new(alloc);
+fn filled(out: &mut Spelling, count: u32, template: &str) -> String {
+    let mut text = Spelling::new(out.alloc());
     for line in template.lines() {
         match line.strip_prefix("* ") {
-            Some(part) => put_often(&mut text, part, count),
+            Some(part) => put_each(&mut text, part, count),
             None => text.put_all(&[line, "\n"]),
         }
     }
-    text
+    out.taken(text)
 }
 
 /// The last line of a report.
@@ -51,7 +50,7 @@ fn last_line(report: &[u8]) -> &str {
     all.lines().next_back().unwrap_or("")
 }
 
-// Tells how many bytes the report has, its last line, and the status.
+/// Tells how many bytes the report has, its last line, and the status.
 fn run_by<R: Threads + Wait + Sync>(rt: &R, out: &mut Spelling, line: &str, text: &str) {
     let answer = answer_line(rt, out, line, text.as_bytes());
     out.put_all(&[line, ": "]);
@@ -65,10 +64,10 @@ pub fn run_large<R: Threads + Wait + Sync>(rt: &R, out: &mut Spelling, title: &s
     out.put_all(&[title, "\n"]);
     let (line, template) = rest.split_once('\n').unwrap_or((rest, ""));
     let (count, words) = line.split_once(' ').unwrap_or(("0", line));
-    let text = text_of(out.alloc(), count.parse::<u32>().unwrap_or(0), template);
+    let count = out.number(count);
+    let text = filled(out, count, template);
     for workers in &WORKERS {
-        let mut line = Spelling::new(out.alloc());
-        line.put_all(&[words, *workers]);
-        run_by(rt, out, line.text(), text.text());
+        let line = out.joined(&[words, *workers]);
+        run_by(rt, out, &line, &text);
     }
 }

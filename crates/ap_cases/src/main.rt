@@ -42,7 +42,6 @@ mod reading;
 mod renamed;
 mod round;
 mod searched;
-mod shapes;
 mod shown;
 mod spelling;
 mod streams;
@@ -62,8 +61,8 @@ fn main(rt: HostRuntime) -> io::Result<()> {
     match env::args(&rt)?.nth(1) {
         Some(word) => measure(&rt, &mut out, &word),
         None => {
-            for (part, folder, name) in &PARTS {
-                write_part(&rt, &mut out, *part, folder, name);
+            for part in &PARTS {
+                write_part(&rt, &mut out, *part);
                 out.flush(&rt);
             }
         }

@@ -23,13 +23,13 @@ use std::alloc::Global;
 use std::sync::Wait;
 use std::thread::Threads;
 
-/// How many of what are counted, by a word.
+/// How many of what are counted, by a word that asks for a measurement.
 fn counted<R: Threads + Wait + Sync>(
     rt: &R,
     alloc: Global,
     word: &str,
-) -> (Result<usize, Memory>, &'static str) {
-    match word {
+) -> Option<(Result<usize, Memory>, &'static str)> {
+    let counted = match word {
         "book" => (book::merged(alloc), " outputs"),
         "lock" => (turns::taken(rt, alloc), " turns"),
         "tasks" => (deques::made(alloc), " deques"),
@@ -42,19 +42,19 @@ fn counted<R: Threads + Wait + Sync>(
         "written" => (measured_derivation(alloc, Stage::Written), " bytes"),
         "read" => (measured_derivation(alloc, Stage::Read), " read"),
         "verified" => (measured_derivation(alloc, Stage::Verified), " verified"),
-        _ => (Err(Memory), ""),
-    }
+        _ => return None,
+    };
+    Some(counted)
 }
 
 /// Tells what is measured.
 pub fn measure<R: Threads + Wait + Sync>(rt: &R, out: &mut Spelling, word: &str) {
-    let (count, what) = counted(rt, out.alloc(), word);
-    match count {
-        Ok(count) => {
+    match counted(rt, out.alloc(), word) {
+        Some((Ok(count), what)) => {
             out.put_number(count as u64, what);
             out.put("\n");
         }
-        Err(Memory) if what.is_empty() => out.put("nothing is measured so\n"),
-        Err(Memory) => out.lose(),
+        Some((Err(Memory), _)) => out.lose(),
+        None => out.put("nothing is measured so\n"),
     }
 }

@@ -3,24 +3,23 @@
 use crate::reading::{items_of, tokens_of};
 use crate::spelling::Spelling;
 use ap_syntax::SynError;
-use std::alloc::Global;
 
 /// A text: what it begins with, an opening so often, what is in the middle, a closing as often, and its end.
 #[derive(Clone, Copy)]
-pub struct Nest<'a> {
-    pub count: u32,
-    pub before: &'a str,
-    pub opening: &'a str,
-    pub middle: &'a str,
-    pub closing: &'a str,
-    pub behind: &'a str,
+struct Nest<'a> {
+    count: u32,
+    before: &'a str,
+    opening: &'a str,
+    middle: &'a str,
+    closing: &'a str,
+    behind: &'a str,
 }
 
-/// The text that a line tells of: the count and the five parts have a `~` between each two.
-fn nest_of(line: &str) -> Nest<'_> {
+/// What a line tells of: the count and the five parts have a `~` between each two.
+fn nest_of<'a>(out: &mut Spelling, line: &'a str) -> Nest<'a> {
     let mut words = line.split('~');
     Nest {
-        count: words.next().unwrap_or("").parse::<u32>().unwrap_or(0),
+        count: out.number(words.next().unwrap_or("")),
         before: words.next().unwrap_or(""),
         opening: words.next().unwrap_or(""),
         middle: words.next().unwrap_or(""),
@@ -37,19 +36,20 @@ fn put_often(out: &mut Spelling, count: u32, text: &str, end: &str) {
     out.put(end);
 }
 
-/// The text that is told of.
-pub fn nested_text(alloc: Global, nest: &Nest<'_>) -> Spelling {
-    let mut out = Spelling::new(alloc);
-    out.put(nest.before);
-    put_often(&mut out, nest.count, nest.opening, nest.middle);
-    put_often(&mut out, nest.count, nest.closing, nest.behind);
-    out
+/// The text that a line tells of.
+pub fn nested_text(out: &mut Spelling, line: &str) -> String {
+    let nest = nest_of(out, line);
+    let mut text = Spelling::new(out.alloc());
+    text.put(nest.before);
+    put_often(&mut text, nest.count, nest.opening, nest.middle);
+    put_often(&mut text, nest.count, nest.closing, nest.behind);
+    out.taken(text)
 }
 
 /// Tells that the text is read that a line tells of.
 pub fn put_nest(out: &mut Spelling, line: &str) -> Result<(), SynError> {
-    let text = nested_text(out.alloc(), &nest_of(line));
-    let tokens = tokens_of(out.alloc(), text.text().as_bytes())?;
+    let text = nested_text(out, line);
+    let tokens = tokens_of(out.alloc(), text.as_bytes())?;
     let _items = items_of(out.alloc(), &tokens)?;
     out.put("read");
     Ok(())

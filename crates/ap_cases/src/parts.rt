@@ -13,7 +13,7 @@ use crate::measures::measure;
 use crate::pages::{show, show_pages};
 use crate::prefixes::tell_prefixes;
 use crate::questions::{Question, Search, put_answer};
-use crate::shown::Kind;
+use crate::shown::Reading;
 use crate::spelling::Spelling;
 use crate::streams::run_commands;
 use crate::texts::{go_round, read_texts};
@@ -44,147 +44,140 @@ pub enum Cases {
     Large,
 }
 
-/// What is done with a file or a folder.
+/// What is done with the text of a file.
 #[derive(Clone, Copy)]
-pub enum Part {
-    /// A line is written.
-    Title,
-    /// Texts are run.
+pub enum Work {
+    /// Its texts are run.
     Texts,
-    /// Command lines are run on one text.
+    /// Its command lines are run on one text.
     Lines,
-    /// Each part is gone through by itself.
+    /// Each of its parts is gone through by itself.
     Parts(Cases),
-    /// A task is done on the texts of a folder.
-    Folder(Task),
-    /// Command lines are run on streams.
-    Streams,
-    /// Bundles are read and checked.
-    Bundles,
-    /// Each proper prefix of a bundle is refused.
+    /// Each proper prefix of the bundle that it is is refused.
     Prefixes,
-    /// Texts are read.
-    Read(Kind),
-    /// Large goals are read and written.
+    /// Its texts are read.
+    Read(Reading),
+    /// The large goals that it tells of are read and written.
     Round,
-    /// The faults of texts are explained.
+    /// The faults of its texts are explained.
     Explained,
-    /// Those of texts that are not UTF-8.
-    Bytes,
-    /// A bundle is shown.
+    /// The bundle that it is is shown.
     Shown(Format),
-    /// A bundle is shown in each format.
+    /// The bundle that it is is shown in each format.
     Pages,
-    /// A measurement is made.
-    Measure,
 }
 
-/// What is written: what is done with a file or a folder, and its folder and its name.
-pub const PARTS: [(Part, &str, &str); 104] = [
-    (Part::Texts, ".", "substituted.cases"),
-    (Part::Texts, ".", "substituted_to_2.cases"),
-    (Part::Texts, ".", "substituted_to_0.cases"),
-    (Part::Texts, ".", "substituted_back.cases"),
-    (Part::Texts, ".", "equations.cases"),
-    (Part::Texts, ".", "typed.cases"),
-    (Part::Texts, ".", "searched_to_1.cases"),
-    (Part::Texts, ".", "searched_to_4.cases"),
-    (Part::Texts, ".", "spelled.cases"),
-    (Part::Texts, ".", "listed.cases"),
-    (Part::Texts, ".", "restricted.cases"),
-    (Part::Texts, ".", "runs.cases"),
-    (Part::Texts, ".", "syntax.cases"),
-    (Part::Texts, ".", "types.cases"),
-    (Part::Texts, ".", "several_types.cases"),
-    (Part::Texts, ".", "swapped.cases"),
-    (Part::Texts, ".", "names.cases"),
-    (Part::Texts, ".", "head_names.cases"),
-    (Part::Texts, ".", "variables.cases"),
-    (Part::Texts, ".", "name_faults.cases"),
-    (Part::Texts, ".", "nested.cases"),
-    (Part::Texts, ".", "grammar.cases"),
-    (Part::Texts, ".", "sampled_to_0.cases"),
-    (Part::Texts, ".", "sampled_to_1.cases"),
-    (Part::Texts, ".", "sampled_to_2.cases"),
-    (Part::Texts, ".", "sampled_to_3.cases"),
-    (Part::Texts, ".", "sampled_to_4.cases"),
-    (Part::Lines, ".", "words"),
-    (Part::Title, ".", "commands.cases"),
-    (Part::Parts(Cases::Commands), ".", "commands.cases"),
-    (Part::Title, ".", "convert.cases"),
-    (Part::Parts(Cases::Commands), ".", "convert.cases"),
-    (Part::Title, ".", "work.cases"),
-    (Part::Parts(Cases::Commands), ".", "work.cases"),
-    (Part::Title, ".", "count.cases"),
-    (Part::Parts(Cases::Commands), ".", "count.cases"),
-    (Part::Title, ".", "cover.cases"),
-    (Part::Parts(Cases::Commands), ".", "cover.cases"),
-    (Part::Title, ".", "examine.cases"),
-    (Part::Parts(Cases::Commands), ".", "examine.cases"),
-    (Part::Title, ".", "answers.cases"),
-    (Part::Parts(Cases::Commands), ".", "answers.cases"),
-    (Part::Title, ".", "outputs"),
-    (Part::Parts(Cases::Outputs), ".", "outputs"),
-    (Part::Title, ".", "branches at [[], [1], [2], [3], [1, 1]]"),
-    (Part::Parts(Cases::Branches), ".", "branches"),
-    (Part::Title, ".", "visits"),
-    (Part::Parts(Cases::Visits), ".", "visits"),
-    (Part::Title, ".", "keys"),
-    (Part::Parts(Cases::Keys), ".", "keys"),
-    (Part::Folder(Task::Run), "bytes", ""),
-    (Part::Folder(Task::Run), "examples", ""),
-    (Part::Folder(Task::Examine), "examples", ""),
-    (Part::Streams, "examples", ""),
-    (Part::Bundles, "bundles", ""),
-    (Part::Title, ".", "prefixes"),
-    (Part::Prefixes, "bundles", "small"),
-    (Part::Prefixes, "bundles", "shared"),
-    (Part::Title, ".", "derivations"),
-    (Part::Folder(Task::Prove), "examples", ""),
-    (Part::Folder(Task::Check), "examples", ""),
-    (Part::Title, ".", "calls"),
-    (Part::Parts(Cases::Calls), ".", "calls.cases"),
-    (Part::Title, ".", "failing"),
-    (Part::Parts(Cases::Failing), ".", "failing"),
-    (Part::Title, ".", "large"),
-    (Part::Parts(Cases::Large), ".", "large"),
-    (Part::Read(Kind::Tokens), "read", "tokens"),
-    (Part::Read(Kind::Items), "read", "items"),
-    (Part::Read(Kind::Items), "read", "terms"),
-    (Part::Read(Kind::Items), "read", "goals"),
-    (Part::Read(Kind::Term), "read", "whole_terms"),
-    (Part::Read(Kind::Type), "read", "whole_types"),
-    (Part::Read(Kind::Part), "read", "written"),
-    (Part::Read(Kind::Nest), "read", "nested"),
-    (Part::Read(Kind::Typed), "read", "typed"),
-    (Part::Round, ".", ""),
-    (Part::Explained, "explained", "mistakes.cases"),
-    (Part::Explained, "explained", "characters.cases"),
-    (Part::Explained, "explained", "grammar.cases"),
-    (Part::Explained, "explained", "nesting.cases"),
-    (Part::Explained, "explained", "words.cases"),
-    (Part::Explained, "explained", "clashes.cases"),
-    (Part::Explained, "explained", "kinds.cases"),
-    (Part::Explained, "explained", "names.cases"),
-    (Part::Explained, "explained", "lines.cases"),
-    (Part::Explained, "explained", "remarks.cases"),
-    (Part::Bytes, ".", ""),
-    (Part::Shown(Format::Text), "shown", "first"),
-    (Part::Shown(Format::Text), "shown", "types"),
-    (Part::Shown(Format::Text), "shown", "evaluation"),
-    (Part::Shown(Format::Text), "shown", "system_f"),
-    (Part::Shown(Format::Text), "shown", "processes"),
-    (Part::Shown(Format::Text), "shown", "debruijn"),
-    (Part::Pages, "shown", "substitution"),
-    (Part::Pages, "shown", "hostile"),
-    (Part::Pages, "shown", "forged_fresh"),
-    (Part::Pages, "shown", "forged_head"),
-    (Part::Pages, "shown", "faulty_text"),
-    (Part::Pages, "shown", "faulty_types"),
-    (Part::Pages, "shown", "faulty_names"),
-    (Part::Pages, "shown", "unended"),
-    (Part::Title, ".", "types"),
-    (Part::Measure, ".", "types"),
+/// A part of what is written.
+#[derive(Clone, Copy)]
+pub enum Part {
+    /// A line with a title.
+    Title(&'static str),
+    /// What is done with a file of a folder.
+    File(Work, &'static str, &'static str),
+    /// A task that is done on the texts of a folder.
+    Folder(Task, &'static str),
+    /// The command lines of a folder, which are run on streams.
+    Streams(&'static str),
+    /// Bundles that are read and checked.
+    Bundles,
+    /// The faults of texts that are not UTF-8, explained.
+    Bytes,
+    /// A measurement, by its word.
+    Measure(&'static str),
+}
+
+/// What is written, part by part.
+pub const PARTS: [Part; 90] = [
+    Part::File(Work::Texts, ".", "substituted.cases"),
+    Part::File(Work::Texts, ".", "substituted_to_2.cases"),
+    Part::File(Work::Texts, ".", "substituted_to_0.cases"),
+    Part::File(Work::Texts, ".", "substituted_back.cases"),
+    Part::File(Work::Texts, ".", "equations.cases"),
+    Part::File(Work::Texts, ".", "typed.cases"),
+    Part::File(Work::Texts, ".", "searched_to_1.cases"),
+    Part::File(Work::Texts, ".", "searched_to_4.cases"),
+    Part::File(Work::Texts, ".", "spelled.cases"),
+    Part::File(Work::Texts, ".", "listed.cases"),
+    Part::File(Work::Texts, ".", "restricted.cases"),
+    Part::File(Work::Texts, ".", "runs.cases"),
+    Part::File(Work::Texts, ".", "syntax.cases"),
+    Part::File(Work::Texts, ".", "types.cases"),
+    Part::File(Work::Texts, ".", "several_types.cases"),
+    Part::File(Work::Texts, ".", "swapped.cases"),
+    Part::File(Work::Texts, ".", "names.cases"),
+    Part::File(Work::Texts, ".", "head_names.cases"),
+    Part::File(Work::Texts, ".", "variables.cases"),
+    Part::File(Work::Texts, ".", "name_faults.cases"),
+    Part::File(Work::Texts, ".", "nested.cases"),
+    Part::File(Work::Texts, ".", "grammar.cases"),
+    Part::File(Work::Texts, ".", "sampled_to_0.cases"),
+    Part::File(Work::Texts, ".", "sampled_to_1.cases"),
+    Part::File(Work::Texts, ".", "sampled_to_2.cases"),
+    Part::File(Work::Texts, ".", "sampled_to_3.cases"),
+    Part::File(Work::Texts, ".", "sampled_to_4.cases"),
+    Part::File(Work::Lines, ".", "words"),
+    Part::File(Work::Parts(Cases::Commands), ".", "commands.cases"),
+    Part::File(Work::Parts(Cases::Commands), ".", "convert.cases"),
+    Part::File(Work::Parts(Cases::Commands), ".", "work.cases"),
+    Part::File(Work::Parts(Cases::Commands), ".", "count.cases"),
+    Part::File(Work::Parts(Cases::Commands), ".", "cover.cases"),
+    Part::File(Work::Parts(Cases::Commands), ".", "examine.cases"),
+    Part::File(Work::Parts(Cases::Commands), ".", "answers.cases"),
+    Part::File(Work::Parts(Cases::Outputs), ".", "outputs"),
+    Part::File(Work::Parts(Cases::Branches), ".", "branches"),
+    Part::File(Work::Parts(Cases::Visits), ".", "visits"),
+    Part::File(Work::Parts(Cases::Keys), ".", "keys"),
+    Part::Folder(Task::Run, "bytes"),
+    Part::Folder(Task::Run, "examples"),
+    Part::Folder(Task::Examine, "examples"),
+    Part::Streams("examples"),
+    Part::Bundles,
+    Part::Title("prefixes"),
+    Part::File(Work::Prefixes, "bundles", "small"),
+    Part::File(Work::Prefixes, "bundles", "shared"),
+    Part::Title("derivations"),
+    Part::Folder(Task::Prove, "examples"),
+    Part::Folder(Task::Check, "examples"),
+    Part::File(Work::Parts(Cases::Calls), ".", "calls.cases"),
+    Part::File(Work::Parts(Cases::Failing), ".", "failing"),
+    Part::File(Work::Parts(Cases::Large), ".", "large"),
+    Part::File(Work::Read(Reading::Tokens), "read", "tokens"),
+    Part::File(Work::Read(Reading::Items), "read", "items"),
+    Part::File(Work::Read(Reading::Items), "read", "terms"),
+    Part::File(Work::Read(Reading::Items), "read", "goals"),
+    Part::File(Work::Read(Reading::Term), "read", "whole_terms"),
+    Part::File(Work::Read(Reading::Type), "read", "whole_types"),
+    Part::File(Work::Read(Reading::Part), "read", "written"),
+    Part::File(Work::Read(Reading::Nest), "read", "nested"),
+    Part::File(Work::Read(Reading::Typed), "read", "typed"),
+    Part::File(Work::Round, "read", "large"),
+    Part::File(Work::Explained, "explained", "mistakes.cases"),
+    Part::File(Work::Explained, "explained", "characters.cases"),
+    Part::File(Work::Explained, "explained", "grammar.cases"),
+    Part::File(Work::Explained, "explained", "nesting.cases"),
+    Part::File(Work::Explained, "explained", "words.cases"),
+    Part::File(Work::Explained, "explained", "clashes.cases"),
+    Part::File(Work::Explained, "explained", "kinds.cases"),
+    Part::File(Work::Explained, "explained", "names.cases"),
+    Part::File(Work::Explained, "explained", "lines.cases"),
+    Part::File(Work::Explained, "explained", "remarks.cases"),
+    Part::Bytes,
+    Part::File(Work::Shown(Format::Text), "shown", "first"),
+    Part::File(Work::Shown(Format::Text), "shown", "types"),
+    Part::File(Work::Shown(Format::Text), "shown", "evaluation"),
+    Part::File(Work::Shown(Format::Text), "shown", "system_f"),
+    Part::File(Work::Shown(Format::Text), "shown", "processes"),
+    Part::File(Work::Shown(Format::Text), "shown", "debruijn"),
+    Part::File(Work::Pages, "shown", "substitution"),
+    Part::File(Work::Pages, "shown", "hostile"),
+    Part::File(Work::Pages, "shown", "forged_fresh"),
+    Part::File(Work::Pages, "shown", "forged_head"),
+    Part::File(Work::Pages, "shown", "faulty_text"),
+    Part::File(Work::Pages, "shown", "faulty_types"),
+    Part::File(Work::Pages, "shown", "faulty_names"),
+    Part::File(Work::Pages, "shown", "unended"),
+    Part::Title("types"),
+    Part::Measure("types"),
 ];
 
 /// Goes through a part of a file.
@@ -194,7 +187,7 @@ fn write_case<R: Threads + Wait + Sync>(rt: &R, out: &mut Spelling, cases: Cases
         Cases::Commands => run_command(rt, out, part),
         Cases::Outputs => {
             out.put_all(&[part, "\n"]);
-            let depth = line.parse::<u32>().unwrap_or(0);
+            let depth = out.number(line);
             put_answer(out, Question::Search(depth, Search::Outputs), rest);
             out.put("\n");
         }
@@ -221,28 +214,47 @@ fn whole(cases: Cases, text: &str) -> &str {
     }
 }
 
-/// Does what is done with a text of a file.
-fn write_text<R: Threads + Wait + Sync>(
+/// The title of a file with parts. The paths are those of `searched.rt`.
+fn title_of(cases: Cases, name: &str) -> &str {
+    match cases {
+        Cases::Branches => "branches at [[], [1], [2], [3], [1, 1]]",
+        Cases::Calls => "calls",
+        _ => name,
+    }
+}
+
+/// Goes through the parts of a file, behind its title.
+fn write_cases<R: Threads + Wait + Sync>(
     rt: &R,
     out: &mut Spelling,
-    part: Part,
+    cases: Cases,
     name: &str,
     text: &str,
 ) {
-    match part {
-        Part::Texts => run_texts(rt, out, name, text),
-        Part::Lines => run_all_lines(rt, out, text),
-        Part::Parts(cases) => {
-            for one in whole(cases, text).split(DIVIDER) {
-                write_case(rt, out, cases, one);
-            }
-        }
-        Part::Prefixes => tell_prefixes(rt, out, name, text),
-        Part::Read(kind) => read_texts(out, kind, name, text),
-        Part::Explained => explain_texts(out, name, text),
-        Part::Shown(format) => show(out, format, name, text),
-        Part::Pages => show_pages(out, name, text),
-        _ => out.lose(),
+    out.put_all(&["% ", title_of(cases, name), "\n"]);
+    for one in whole(cases, text).split(DIVIDER) {
+        write_case(rt, out, cases, one);
+    }
+}
+
+/// Does what is done with the text of a file.
+fn write_text<R: Threads + Wait + Sync>(
+    rt: &R,
+    out: &mut Spelling,
+    work: Work,
+    name: &str,
+    text: &str,
+) {
+    match work {
+        Work::Texts => run_texts(rt, out, name, text),
+        Work::Lines => run_all_lines(rt, out, text),
+        Work::Parts(cases) => write_cases(rt, out, cases, name, text),
+        Work::Prefixes => tell_prefixes(rt, out, name, text),
+        Work::Read(reading) => read_texts(out, reading, name, text),
+        Work::Round => go_round(out, text),
+        Work::Explained => explain_texts(out, name, text),
+        Work::Shown(format) => show(out, format, name, text),
+        Work::Pages => show_pages(out, name, text),
     }
 }
 
@@ -251,20 +263,17 @@ pub fn write_part<R: Threads + Wait + Sync + AllocGlobal + Files + Print>(
     rt: &R,
     out: &mut Spelling,
     part: Part,
-    folder: &str,
-    name: &str,
 ) {
     match part {
-        Part::Title => out.put_all(&["% ", name, "\n"]),
-        Part::Folder(task) => go_through_folder(rt, out, task, folder),
-        Part::Streams => run_commands(rt, out, folder),
-        Part::Bundles => tell_bundles(rt, out),
-        Part::Round => go_round(out),
-        Part::Bytes => explain_bytes(out),
-        Part::Measure => measure(rt, out, name),
-        _ => {
+        Part::Title(title) => out.put_all(&["% ", title, "\n"]),
+        Part::File(work, folder, name) => {
             let text = text_of(rt, out, folder, name);
-            write_text(rt, out, part, name, &text);
+            write_text(rt, out, work, name, &text);
         }
+        Part::Folder(task, folder) => go_through_folder(rt, out, task, folder),
+        Part::Streams(folder) => run_commands(rt, out, folder),
+        Part::Bundles => tell_bundles(rt, out),
+        Part::Bytes => explain_bytes(out),
+        Part::Measure(word) => measure(rt, out, word),
     }
 }

@@ -16,8 +16,9 @@ fn is_unended<R: Threads + Wait + Sync>(
     let mut wanted = Spelling::new(out.alloc());
     wanted.put("% bundle fault: line ");
     wanted.put_number(line, ", kind 4 Unended\n");
+    let wanted = out.taken(wanted);
     let refused = answer_by(rt, out, words, bytes);
-    refused.status == 2 && refused.bytes.as_slice() == wanted.text().as_bytes()
+    refused.status == 2 && refused.bytes.as_slice() == wanted.as_bytes()
 }
 
 /// How many proper prefixes a command refuses so.

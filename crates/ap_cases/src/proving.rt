@@ -12,25 +12,8 @@ pub struct Written {
     pub shared: Vec<u8>,
 }
 
-/// The words of a call, its input, and what it is to write.
-pub type Wanted<'w> = (&'w [&'w str], &'w [u8], &'w [u8]);
-
-/// Whether calls write what they are to.
-pub fn are_written<R: Threads + Wait + Sync>(
-    rt: &R,
-    out: &mut Spelling,
-    calls: &[Wanted<'_>],
-) -> bool {
-    for (words, input, bytes) in calls {
-        if answer_by(rt, out, words, input).bytes.as_slice() != *bytes {
-            return false;
-        }
-    }
-    true
-}
-
 /// Whether a call writes these bytes for an input.
-fn is_written<R: Threads + Wait + Sync>(
+pub fn is_written<R: Threads + Wait + Sync>(
     rt: &R,
     out: &mut Spelling,
     words: &[&str],
@@ -63,9 +46,9 @@ fn are_checked<R: Threads + Wait + Sync>(
     let mut line = Spelling::new(out.alloc());
     line.put("% ");
     line.put_number(count as u64, " derivations checked\n");
-    let wanted = line.text().as_bytes();
-    is_written(rt, out, &["check"], &written.full, wanted)
-        && is_written(rt, out, &["check"], &written.shared, wanted)
+    let wanted = out.taken(line);
+    is_written(rt, out, &["check"], &written.full, wanted.as_bytes())
+        && is_written(rt, out, &["check"], &written.shared, wanted.as_bytes())
 }
 
 /// Whether `convert` makes each of two versions of a bundle of these bytes.

@@ -13,6 +13,7 @@ use ap_defs::paths::Path;
 use ap_index::index::Index;
 use ap_paths::Limit;
 use ap_program::restricted::Restricted;
+use std::io::ErrorKind;
 
 /// What is asked of a search.
 #[derive(Clone, Copy)]
@@ -45,13 +46,16 @@ fn put_searched(out: &mut Spelling, search: Search<'_>, problem: &Problem<'_>) -
     }
 }
 
-/// Answers what is asked of a program with its index.
+/// Answers what is asked of a program with its index. Where it has no query, what is asked of its search is lost.
 fn put_by(out: &mut Spelling, question: Question<'_>, index: &Index<'_>) -> Result<(), Memory> {
     match question {
         Question::Kids(pred, keys) => put_kids(out, index, pred, keys),
         Question::Search(depth, search) => match problem_of(index, 1, depth) {
             Some(problem) => put_searched(out, search, &problem),
-            None => Err(Memory),
+            None => {
+                out.lose_by(ErrorKind::InvalidInput);
+                Ok(())
+            }
         },
     }
 }
@@ -62,10 +66,14 @@ fn put_in(out: &mut Spelling, question: Question<'_>, program: &Restricted) -> R
     put_by(out, question, &index)
 }
 
-/// Answers what is asked of a text. A text with a fault has no answer.
+/// Answers what is asked of a text. A text with a fault has no answer, which is lost.
 pub fn put_answer(out: &mut Spelling, question: Question<'_>, text: &str) {
     let answered = match program_of(out.alloc(), text.as_bytes()) {
-        Ok(program) => put_in(out, question, &program),
+        Ok(Some(program)) => put_in(out, question, &program),
+        Ok(None) => {
+            out.lose_by(ErrorKind::InvalidInput);
+            Ok(())
+        }
         Err(Memory) => Err(Memory),
     };
     if answered.is_err() {

@@ -1,7 +1,6 @@
 //! Ground proofs with their names exchanged for others.
 
 use crate::spelling::Spelling;
-use std::alloc::Global;
 
 /// The names with lower numbers stay: they may be a query's own, of which none has so many identifiers.
 const FIRST: u64 = 64;
@@ -44,7 +43,8 @@ fn put_renamed(made: &mut Spelling, line: &str, exchange: Exchange) {
             made.put(" ");
         }
         if left == 1 {
-            made.put_number(exchange.of(word.parse::<u64>().unwrap_or(0)), "");
+            let num = made.long_number(word);
+            made.put_number(exchange.of(num), "");
         } else {
             made.put(word);
         }
@@ -72,14 +72,14 @@ fn put_lines(made: &mut Spelling, lines: &str, first: u64) {
 
 /// A bundle of version 1 whose text has so many bytes, with the names of each of its derivations, which are ground,
 /// exchanged for others.
-pub fn renamed(alloc: Global, bundle: &[u8], text: usize) -> Spelling {
-    let mut made = Spelling::new(alloc);
+pub fn renamed(out: &mut Spelling, bundle: &[u8], text: usize) -> String {
+    let mut made = Spelling::new(out.alloc());
     made.put("alphaprolog bundle 1\ntext ");
     made.put_number(text as u64, "\n");
-    let head = made.text().len();
+    let head = made.len();
     let split = head.saturating_add(text).min(bundle.len());
     made.put_bytes(bundle.get(head..split).unwrap_or(&[]));
     let lines = std::str::from_utf8(bundle.get(split..).unwrap_or(&[])).unwrap_or("");
     put_lines(&mut made, lines, FIRST);
-    made
+    out.taken(made)
 }

@@ -28,9 +28,8 @@ impl Outcome {
 
 /// What becomes of a goal that is read as a query's, and written.
 pub fn round_of(out: &mut Spelling, goal: &str) -> Outcome {
-    let mut text = Spelling::new(out.alloc());
-    text.put_all(&["?- ", goal, "."]);
-    match part_of(out.alloc(), text.text()) {
+    let text = out.joined(&["?- ", goal, "."]);
+    match part_of(out.alloc(), &text) {
         Ok(Some((_, bytes))) if bytes.as_slice() == goal.as_bytes() => Outcome::Same,
         Ok(Some(_)) => Outcome::Other,
         Ok(None) | Err(SynError::Fault(_)) => Outcome::NotRead,

@@ -12,9 +12,9 @@ use ap_syntax::SynError;
 use ap_trees::{ReadError, Tree, TypeTree};
 use ap_whole::{symbols_of, whole_term, whole_type};
 
-/// What is shown of a text.
+/// What a text is read as, and what is shown of that.
 #[derive(Clone, Copy)]
-pub enum Kind {
+pub enum Reading {
     /// Its tokens.
     Tokens,
     /// Its items.
@@ -105,15 +105,15 @@ fn put_fault(out: &mut Spelling, fault: SyntaxFault) {
 }
 
 /// What is shown of a text, or its fault.
-pub fn put_shown(out: &mut Spelling, kind: Kind, text: &str) {
-    let read = match kind {
-        Kind::Tokens => put_tokens(out, text),
-        Kind::Items => put_items(out, text),
-        Kind::Term => put_term(out, text),
-        Kind::Type => put_whole_type(out, text),
-        Kind::Part => put_part(out, text),
-        Kind::Nest => put_nest(out, text),
-        Kind::Typed => put_typed(out, text),
+pub fn put_shown(out: &mut Spelling, reading: Reading, text: &str) {
+    let read = match reading {
+        Reading::Tokens => put_tokens(out, text),
+        Reading::Items => put_items(out, text),
+        Reading::Term => put_term(out, text),
+        Reading::Type => put_whole_type(out, text),
+        Reading::Part => put_part(out, text),
+        Reading::Nest => put_nest(out, text),
+        Reading::Typed => put_typed(out, text),
     };
     match read {
         Ok(()) => {}

@@ -25,19 +25,21 @@ fn run<R: Threads + Wait + Sync + Files + Print>(
             let status = status_of(rt, out.alloc(), words, &mut source, &mut sink, &NoGate);
             put_status(out, status);
         }
-        Err(_) => out.lose(),
+        Err(error) => out.lose_by(error.kind()),
     }
 }
 
-/// Writes what the top call writes for the words of a line and what a path has.
+/// Writes what the top call writes for the words of a line and what a file of a folder has.
 fn run_line<R: Threads + Wait + Sync + Files + Print>(
     rt: &R,
     out: &mut Spelling,
     line: &str,
-    path: &str,
+    folder: &str,
+    name: &str,
 ) {
+    let path = out.joined(&[folder, "/", name]);
     match words_in(out.alloc(), line) {
-        Ok(words) => run(rt, out, &words, path),
+        Ok(words) => run(rt, out, &words, &path),
         Err(_) => out.lose(),
     }
 }
@@ -51,11 +53,8 @@ pub fn run_text<R: Threads + Wait + Sync + Files + Print>(
     name: &str,
 ) {
     out.put_all(&["% ", folder, "/", name, "\n"]);
-    let mut line = Spelling::new(out.alloc());
-    line.put_all(&["run --depth ", depth]);
-    let mut path = Spelling::new(out.alloc());
-    path.put_all(&[folder, "/", name]);
-    run_line(rt, out, line.text(), path.text());
+    let line = out.joined(&["run --depth ", depth]);
+    run_line(rt, out, &line, folder, name);
 }
 
 /// Runs the command lines of a folder: what stands behind ` < ` is what the command reads.
@@ -67,9 +66,7 @@ pub fn run_commands<R: Threads + Wait + Sync + AllocGlobal + Files + Print>(
     for line in text_of(rt, out, folder, "commands").lines() {
         if let Some((words, name)) = line.split_once(" < ") {
             out.put_all(&["% ", words, " < ", folder, "/", name, "\n"]);
-            let mut path = Spelling::new(out.alloc());
-            path.put_all(&[folder, "/", name]);
-            run_line(rt, out, words, path.text());
+            run_line(rt, out, words, folder, name);
         }
     }
 }

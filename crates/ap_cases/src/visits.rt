@@ -15,23 +15,18 @@ use ap_replay::problem_tree::ProblemTree;
 use ap_replay::replay::at;
 use std::alloc::{AllocError, Global};
 
-/// The number of a word.
-fn number_of(word: &str) -> u32 {
-    word.parse::<u32>().unwrap_or(0)
-}
-
 /// The path whose choices stand in a line behind two other words.
-fn path_in(alloc: Global, line: &str) -> Result<Path, AllocError> {
-    let mut choices = Vec::new(alloc);
+fn path_in(out: &mut Spelling, line: &str) -> Result<Path, AllocError> {
+    let mut choices = Vec::new(out.alloc());
     for word in line.split(' ').skip(2) {
-        choices.push(number_of(word))?;
+        choices.push(out.number(word))?;
     }
     Ok(Path::of(choices))
 }
 
 /// How many answers a line asks for.
-fn limit_of(line: &str) -> Limit {
-    match number_of(line.split(' ').nth(1).unwrap_or("")) {
+fn limit_of(out: &mut Spelling, line: &str) -> Limit {
+    match out.number(line.split(' ').nth(1).unwrap_or("")) {
         0 => Limit::All,
         wanted => Limit::First(wanted as u64),
     }
@@ -75,10 +70,11 @@ pub fn put_visit(
 /// Tells what a line asks for, and what the visit answers.
 pub fn visit_text(out: &mut Spelling, line: &str, text: &str) {
     out.put_all(&[line, ": "]);
-    let depth = number_of(line.split(' ').next().unwrap_or(""));
-    match path_in(out.alloc(), line) {
+    let depth = out.number(line.split(' ').next().unwrap_or(""));
+    let limit = limit_of(out, line);
+    match path_in(out, line) {
         Ok(path) => {
-            let visit = Search::Visit(limit_of(line), &path);
+            let visit = Search::Visit(limit, &path);
             put_answer(out, Question::Search(depth, visit), text);
         }
         Err(_) => out.lose(),

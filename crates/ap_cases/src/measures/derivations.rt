@@ -118,6 +118,8 @@ fn taken_by(alloc: Global, stage: Stage, program: &Restricted) -> Result<usize, 
 
 /// The derivation, taken so far: of what is made there is one, and otherwise none.
 pub fn measured_derivation(alloc: Global, stage: Stage) -> Result<usize, Memory> {
-    let program = program_of(alloc, TEXT.as_bytes())?;
-    taken_by(alloc, stage, &program)
+    match program_of(alloc, TEXT.as_bytes())? {
+        Some(program) => taken_by(alloc, stage, &program),
+        None => Ok(0),
+    }
 }
