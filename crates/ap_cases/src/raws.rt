@@ -58,24 +58,19 @@ fn put_under(out: &mut Spelling, under: &Under) {
     out.put("))");
 }
 
-/// A constructor of two terms.
-#[cycle(raws)]
-fn put_two(out: &mut Spelling, constructor: &str, left: &Raw, right: &Raw) {
-    out.put(constructor);
-    out.put("(");
-    put_raw(out, left);
-    out.put(", ");
-    put_raw(out, right);
-    out.put(")");
-}
-
 #[cycle(raws)]
 fn put_raw(out: &mut Spelling, term: &Raw) {
     match term {
         Raw::Unit => out.put("Unit"),
         Raw::Name(a) => put_name(out, *a),
         Raw::Var(x) => put_var(out, *x),
-        Raw::Pair(left, right) => put_two(out, "Pair", left, right),
+        Raw::Pair(left, right) => {
+            out.put("Pair(");
+            put_raw(out, left);
+            out.put(", ");
+            put_raw(out, right);
+            out.put(")");
+        }
         Raw::App(f, argument) => {
             begin(out, "App", *f, ", ");
             put_raw(out, argument);
@@ -83,6 +78,16 @@ fn put_raw(out: &mut Spelling, term: &Raw) {
         }
         Raw::Under(under) => put_under(out, under),
     }
+}
+
+/// Two terms as the parts of a goal.
+fn put_two(out: &mut Spelling, constructor: &str, left: &Raw, right: &Raw) {
+    out.put(constructor);
+    out.put("(");
+    put_raw(out, left);
+    out.put(", ");
+    put_raw(out, right);
+    out.put(")");
 }
 
 /// A list of terms.
@@ -103,27 +108,27 @@ fn put_atom(out: &mut Spelling, pred: u32, args: &List<Raw>) {
     out.put(")");
 }
 
-/// A constructor of two goals.
-#[cycle(goals)]
-fn put_goals(out: &mut Spelling, constructor: &str, left: &Goal<Raw>, right: &Goal<Raw>) {
-    out.put(constructor);
-    out.put("(");
-    put_raw_goal(out, left);
-    out.put(", ");
-    put_raw_goal(out, right);
-    out.put(")");
-}
-
 /// A goal.
-#[cycle(goals)]
 pub fn put_raw_goal(out: &mut Spelling, goal: &Goal<Raw>) {
     match goal {
         Goal::True => out.put("True"),
         Goal::Atom(pred, args) => put_atom(out, *pred, args),
         Goal::Equal(left, right) => put_two(out, "Equal", left, right),
         Goal::Fresh(left, right) => put_two(out, "Fresh", left, right),
-        Goal::Both(left, right) => put_goals(out, "Both", left, right),
-        Goal::Either(left, right) => put_goals(out, "Either", left, right),
+        Goal::Both(left, right) => {
+            out.put("Both(");
+            put_raw_goal(out, left);
+            out.put(", ");
+            put_raw_goal(out, right);
+            out.put(")");
+        }
+        Goal::Either(left, right) => {
+            out.put("Either(");
+            put_raw_goal(out, left);
+            out.put(", ");
+            put_raw_goal(out, right);
+            out.put(")");
+        }
         Goal::Exists(x, body) => {
             out.put("Exists(");
             out.put_var(*x);

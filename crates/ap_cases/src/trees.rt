@@ -75,17 +75,6 @@ fn put_applied(out: &mut Spelling, word: &str, args: &Args<'_>) {
     out.put(")");
 }
 
-/// A constructor of two terms.
-#[cycle(trees)]
-fn put_two(out: &mut Spelling, constructor: &str, left: &Tree<'_>, right: &Tree<'_>) {
-    out.put(constructor);
-    out.put("(");
-    put_tree(out, left);
-    out.put(", ");
-    put_tree(out, right);
-    out.put(")");
-}
-
 /// A term.
 #[cycle(trees)]
 pub fn put_tree(out: &mut Spelling, tree: &Tree<'_>) {
@@ -98,11 +87,33 @@ pub fn put_tree(out: &mut Spelling, tree: &Tree<'_>) {
             let Application::To(word, args) = &**applied;
             put_applied(out, word, args)
         }
-        Tree::Pair(left, right) => put_two(out, "Pair", left, right),
-        Tree::Cell(left, right) => put_two(out, "Cell", left, right),
+        Tree::Pair(left, right) => {
+            out.put("Pair(");
+            put_tree(out, left);
+            out.put(", ");
+            put_tree(out, right);
+            out.put(")");
+        }
+        Tree::Cell(left, right) => {
+            out.put("Cell(");
+            put_tree(out, left);
+            out.put(", ");
+            put_tree(out, right);
+            out.put(")");
+        }
         Tree::Abs(binder, body) => put_within(out, binder, body),
         Tree::Swapped(sides, body) => put_swapped(out, sides, body),
     }
+}
+
+/// Two terms as the parts of a goal.
+fn put_two(out: &mut Spelling, constructor: &str, left: &Tree<'_>, right: &Tree<'_>) {
+    out.put(constructor);
+    out.put("(");
+    put_tree(out, left);
+    out.put(", ");
+    put_tree(out, right);
+    out.put(")");
 }
 
 /// A type.
@@ -168,25 +179,26 @@ fn put_atom(out: &mut Spelling, word: &str, args: &List<Tree<'_>>) {
     out.put(")");
 }
 
-/// A constructor of two goals.
-#[cycle(goals)]
-fn put_goals(out: &mut Spelling, constructor: &str, left: &GoalTree<'_>, right: &GoalTree<'_>) {
-    out.put(constructor);
-    out.put("(");
-    put_goal(out, left);
-    out.put(", ");
-    put_goal(out, right);
-    out.put(")");
-}
-
 #[cycle(goals)]
 fn put_goal(out: &mut Spelling, goal: &GoalTree<'_>) {
     match goal {
         GoalTree::Atom(word, args) => put_atom(out, word, args),
         GoalTree::Equal(left, right) => put_two(out, "Equal", left, right),
         GoalTree::Fresh(left, right) => put_two(out, "Fresh", left, right),
-        GoalTree::Both(left, right) => put_goals(out, "Both", left, right),
-        GoalTree::Either(left, right) => put_goals(out, "Either", left, right),
+        GoalTree::Both(left, right) => {
+            out.put("Both(");
+            put_goal(out, left);
+            out.put(", ");
+            put_goal(out, right);
+            out.put(")");
+        }
+        GoalTree::Either(left, right) => {
+            out.put("Either(");
+            put_goal(out, left);
+            out.put(", ");
+            put_goal(out, right);
+            out.put(")");
+        }
         GoalTree::Exists(word, body) => put_bound(out, "Exists", word, body),
         GoalTree::New(word, body) => put_bound(out, "New", word, body),
     }
