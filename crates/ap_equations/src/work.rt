@@ -120,6 +120,37 @@ pub fn bind_var<'a>(
     Ok(())
 }
 
+/// As `bind_plain`, where there may be conditions on the variable.
+#[cold]
+#[inline(never)]
+fn bind_held<'a>(
+    alloc: Global,
+    store: &mut Store<'a>,
+    work: &mut Work<'a>,
+    x: Var,
+    p: Plain<'a>,
+    found: Occurrence,
+) -> Result<(), Memory>
+    requires made { x.num < (present store.old).next }
+    requires unbound { IsUnbound (bindings_of store.old) x }
+    requires below { IsBelow (present store.old).next (plain_term p) }
+    requires absent { occurs x (under (bindings_of store.old) (plain_term p)) ≡ false }
+    requires no_vars { found ≡ Occurrence.Ground →
+        HasNoVars (under (bindings_of store.old) (plain_term p)) }
+    requires like { (w : variable) → found ≡ Occurrence.Like w → HaveSameVars
+        (under (bindings_of store.old) (plain_term p))
+        (under (bindings_of store.old) (susp [] w)) }
+    ensures bindings { OnOk result (bindings_of store.new ≡ (with_binding x
+        (under (bindings_of store.old) (plain_term p.entry)) (present store.old)).bindings) }
+    ensures equations { work.new.equations.items ≡ work.old.equations.items }
+    ensures problems { work.new.problems.items ≡ work.old.problems.items }
+    ensures goes_on { OnOk result (GoOn (present store.old) work.old (present store.new) work.new) }
+    ensures past { IsPrefixOf (versions store.old) (versions store.new) }
+    ensures kinds { kinds store.new ≡ kinds store.old }
+{
+    bind_var(alloc, store, work, x, p.closure(alloc), found.is_ground())
+}
+
 /// Binds a variable to a part, with what was found of the variables there, and takes the conditions on it out of
 /// the store.
 pub fn bind_plain<'a>(
@@ -148,7 +179,7 @@ pub fn bind_plain<'a>(
     ensures kinds { kinds store.new ≡ kinds store.old }
 {
     if store.has_conditions(x) {
-        return bind_var(alloc, store, work, x, p.closure(alloc), found.is_ground());
+        return bind_held(alloc, store, work, x, p, found);
     }
     store.bind_free(x, p.base, p.end, p.term, found)
 }

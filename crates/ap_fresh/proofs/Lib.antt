@@ -2,4 +2,5 @@ pub mod SetLemmas
 pub mod StepLemmas
 pub mod RenamedLemmas
 pub mod PendingLemmas
+pub mod ListingLemmas
 mod SoughtLemmas

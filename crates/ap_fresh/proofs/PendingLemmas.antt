@@ -3,7 +3,8 @@ use Rattle.std.proofs.Common.{◌≡◌, ◌⊎◌, ◌<◌, ◌≤◌, ℕ, ◌
 use Rattle.std.proofs.lemmas.List.{append-nil}
 use Rattle.std.specs.Prelude.{None, Option, Some}
 use Rattle.ap_defs.specs.Freshness.{Conds, both}
-use Rattle.ap_defs.specs.Terms.{NominalTerm, susp}
+use Rattle.ap_defs.specs.Permutations.{act_name, inverse}
+use Rattle.ap_defs.specs.Terms.{NominalTerm, act_term, susp}
 use Rattle.ap_defs.specs.declared.terms.Cond.{Cond}
 use Rattle.ap_defs.specs.declared.terms.Name.{Name}
 use Rattle.ap_defs.specs.declared.terms.Swap.{Swap}
@@ -14,8 +15,8 @@ use Rattle.ap_theory.proofs.BooleanLemmas.{same_test}
 use Rattle.ap_fresh.specs.Reduction.{pending_term}
 use Rattle.ap_fresh.specs.declared.pending.Pending.{Pending}
 use Rattle.ap_fresh.proofs.SetLemmas.{both_assoc, both_nothing, left_tells, nothing_told, one_tells, right_tells, tells}
-use Rattle.ap_fresh.proofs.StepLemmas.{inner_problem, problem}
-use Rattle.ap_perm.proofs.VisitLemmas.{visits, visits_act, visits_inner}
+use Rattle.ap_fresh.proofs.StepLemmas.{inner_problem, moved_problem, problem, var_problem}
+use Rattle.ap_perm.proofs.VisitLemmas.{visits, visits_act, visits_bound, visits_inner}
 
 module _ (bound : Bound) (rank : Var → ℕ) (ranked : IsRanked bound rank) where
   abbrev pub problem_of : Pending → Option (List Cond)
@@ -40,7 +41,7 @@ module _ (bound : Bound) (rank : Var → ℕ) (ranked : IsRanked bound rank) whe
   abbrev pub visits_below : Cond → ℕ
   visits_below c = visits bound rank (susp [] c.var)
 
-  all_append : (ps qs : List Pending) → all_left (ps ++ qs) ≡ both (all_left ps) (all_left qs)
+  pub all_append : (ps qs : List Pending) → all_left (ps ++ qs) ≡ both (all_left ps) (all_left qs)
   all_append [] qs = some_both (all_left qs)
     where
       some_both : (x : Option (List Cond)) → x ≡ both (Some []) x
@@ -65,9 +66,28 @@ module _ (bound : Bound) (rank : Var → ℕ) (ranked : IsRanked bound rank) whe
       let k : visits bound rank (pending_term w) ≡ visits bound rank (inner_part a t) = ap (visits bound rank) f in
       omega (arith, h, k)
 
-  -- swappings that wait on a variable change no visits
-  pub visits_swapped : (q : List Swap) (x : Var) → visits bound rank (susp q x) ≡ visits bound rank (susp [] x)
-  visits_swapped q x = ap (λ r. visits bound rank (susp r x)) (sym (append-nil q)) ∙ visits_act bound rank ranked q (susp [] x)
+  -- what a problem asks of a variable on which swappings wait, and what it visits
+  module _ (p : Pending) (q : List Swap) (x : Var) (c : Cond) (t : pending_term p ≡ susp q x) (n : c.name ≡ act_name (inverse q) p.name) (v : c.var ≡ x) where
+    unswapped : pending_term p ≡ act_term q (susp [] c.var)
+    unswapped = t ∙ ap₂ susp (sym (append-nil q)) (sym v)
+
+    pub in_var_same : problem_of p ≡ in_var c
+    in_var_same =
+        ap (problem bound rank ranked p.name) unswapped ∙ moved_problem bound rank ranked p.name q (susp [] c.var) ∙ ap (λ a. problem bound rank ranked a (susp [] c.var)) (sym n)
+
+    pub in_var_visits : visits_of p ≡ visits_below c
+    in_var_visits = ap (visits bound rank) unswapped ∙ visits_act bound rank ranked q (susp [] c.var)
+
+  -- what a variable that is bound asks, and what that visits
+  module _ (c : Cond) (w : Pending) (q : List Swap) (u : NominalTerm) (h : bound c.var ≡ Some (act_term q u)) (t : pending_term w ≡ u) where
+    pub bound_same : w.name ≡ act_name (inverse q) c.name → in_var c ≡ problem_of w
+    bound_same n = var_problem bound rank ranked c.name c.var (act_term q u) h ∙ moved_problem bound rank ranked c.name q u ∙ sym (ap₂ (problem bound rank ranked) n t)
+
+    pub bound_fewer : visits_of w < visits_below c
+    bound_fewer =
+        let k = visits_bound bound rank ranked [] c.var q u h in
+        let l : visits_of w ≡ visits bound rank u = ap (visits bound rank) t in
+        omega (arith, k, l)
 
   -- The last problem is taken, and others take its place.
   module _ (ps qs rest all : List Pending) (p : Pending) (e : all ≡ ps ++ p ∷ []) (f : rest ≡ ps ++ qs) where

@@ -62,11 +62,11 @@ or_flip true b = sym (or_true b)
 or_flip false true = refl
 or_flip false false = refl
 
--- one condition behind others
-pub cond_behind : (c : Cond) (ds : Conds) → added (Some (c ∷ [])) ds ≡ collected (Some (ds ++ c ∷ []))
-cond_behind c ds =
-    told_same (both (Some (c ∷ [])) (Some ds)) (both (Some ds) (Some (c ∷ [])))
-    (λ e. tells_both (Some (c ∷ [])) (Some ds) e ∙ or_flip (tells (Some (c ∷ [])) e) (tells (Some ds) e) ∙ sym (tells_both (Some ds) (Some (c ∷ [])) e))
+-- conditions behind others
+pub behind_order : (cs ds : List Cond) → added (Some cs) ds ≡ collected (Some (ds ++ cs))
+behind_order cs ds =
+    told_same (both (Some cs) (Some ds)) (both (Some ds) (Some cs))
+    (λ e. tells_both (Some cs) (Some ds) e ∙ or_flip (tells (Some cs) e) (tells (Some ds) e) ∙ sym (tells_both (Some ds) (Some cs) e))
 
 pub both_assoc : (x y z : Option (List Cond)) → both (both x y) z ≡ both x (both y z)
 both_assoc None y z = refl
@@ -109,14 +109,6 @@ and_exchange : (x y z : Bool) → (x && (y && z)) ≡ (y && (x && z))
 and_exchange true y z = refl
 and_exchange false true z = refl
 and_exchange false false z = refl
-
-and_assoc : (x y z : Bool) → (x && (y && z)) ≡ ((x && y) && z)
-and_assoc true y z = refl
-and_assoc false y z = refl
-
-and_true : (x : Bool) → (x && true) ≡ x
-and_true true = refl
-and_true false = refl
 
 -- a test of each member of a set
 list_all-add_cond : (f : Cond → Bool) (c : Cond) (ds : Conds) → list_all f (add_cond c ds) ≡ (f c && list_all f ds)

@@ -34,3 +34,11 @@ one_more c d old new put h =
       | true ↦ λ e k. inr (sym (cond_eq_tells c d (sym (key_eq c d) ∙ e)))
       | false ↦ λ e k. inl k
     ] refl) (sym put ∙ h)
+
+pub still_kept : (c d : Cond) (old new : ℕ × (ℕ × ℕ) → Bool) → new (cond_key d) ≡ (if is_eq (cond_key_cmp (cond_key c) (cond_key d)) then true else old (cond_key d))
+    → old (cond_key d) ≡ true → new (cond_key d) ≡ true
+still_kept c d old new put h = put ∙ kept (is_eq (cond_key_cmp (cond_key c) (cond_key d)))
+  where
+    kept : (b : Bool) → (if b then true else old (cond_key d)) ≡ true
+    kept true = refl
+    kept false = h

@@ -13,6 +13,6 @@ cond_key c = (c.var.num, (c.name.sort, c.name.num))
 abbrev pub cond_key_cmp : ℕ × (ℕ × ℕ) → ℕ × (ℕ × ℕ) → Ordering
 cond_key_cmp p q = ordering_then (nat_cmp p.0 q.0) (ordering_then (nat_cmp p.1.0 q.1.0) (nat_cmp p.1.1 q.1.1))
 
--- the name was sought in the variable
+-- the name was sought in the variable, as far as this is kept
 abbrev pub was_sought : Sought → Cond → Bool
 was_sought s c = contains cond_key_cmp s.pairs (cond_key c)

@@ -3,16 +3,16 @@
 ghost use Rattle.std.specs.Prelude.{◌≡◌, [], true, false, None, Some, IfOk, OnOk, IsErrOf, IsOkUnless, map};
 ghost use Rattle.ap_defs.specs.Freshness.{reduce as by_rules};
 ghost use Rattle.ap_defs.specs.Permutations.{act_name, inverse};
-ghost use Rattle.ap_defs.specs.Renaming.{AreSwapsBelow, IsBelow, rename_swap, rename_term};
+ghost use Rattle.ap_defs.specs.Renaming.{AreSwapsBelow, IsBelow, rename_swap, rename_term, rename_var};
 ghost use Rattle.ap_defs.specs.Terms.{susp, term_of};
 ghost use Rattle.ap_theory.specs.StatementsOnConditions.{collected, is_free};
 ghost use Rattle.ap_perm.specs.Closures.{closure_term};
 ghost use Rattle.ap_perm.specs.Lookups.{carried_out};
-ghost use Rattle.ap_fresh.specs.Reduction.{added, pending_term, IsLeast};
+ghost use Rattle.ap_fresh.specs.Reduction.{added, pending_term, IsLeast, StandBehind};
 
 use crate::error::FreshError;
 use crate::pending::Pending;
-use crate::sought::{Sought, is_sought, seek};
+use crate::sought::{Sought, seek};
 use ap_defs::terms::{Cond, Name, Swap, Term, Var};
 use ap_perm::closures::Closure;
 use ap_perm::joining::numbered;
@@ -39,13 +39,30 @@ fn preimage_from(base: u64, end: u64, swaps: &[Swap], a: Name) -> Name
     moved
 }
 
+/// The name that is to be fresh for a variable, where the problem's is to be for swappings on one.
+fn at_variable(p: &Pending<'_>, swaps: &[Swap], x: Var) -> Cond
+    requires { IsBelow p.now.end (susp (map (rename_swap p.now.base) swaps.now)
+        (rename_var p.now.base x)) }
+    ensures name { result.name ≡ act_name (inverse (map (rename_swap p.now.base) swaps.now))
+        p.now.name }
+    ensures var { result.var ≡ rename_var p.now.base x }
+{
+    Cond {
+        name: preimage_from(p.base, p.end, swaps, p.name),
+        var: Var {
+            num: p.base + x.num,
+        },
+    }
+}
+
 /// Puts the conditions to which a problem reduces under the bindings behind others. What is left to be reduced lies on
-/// a stack. A name is sought once in a variable, from where many were gone through: so a term that has it in many places
-/// takes no longer than one that has it once.
+/// a stack, and is taken from the last to the first. Once more variables were gone through than there are numbers
+/// among them, a name is sought in a variable once only: so a term that has one in many places takes no longer than
+/// one that has it once.
 fn collect<L: Look>(first: Pending<'_>, look: &L, conds: &mut Vec<Cond>) -> Result<(), FreshError>
-    ensures added { OnOk result (added (by_rules first.entry.name (carried_out (L.bound look.now)
-        (L.rank look.now) (pending_term first.entry))) conds.old.items
-        ≡ collected (Some conds.new.items)) }
+    ensures behind { OnOk result (StandBehind (by_rules first.entry.name (carried_out
+        (L.bound look.now) (L.rank look.now) (pending_term first.entry))) conds.old.items
+        conds.new.items) }
     ensures refuted { IsErrOf result FreshError.Refuted →
         by_rules first.entry.name (carried_out (L.bound look.now) (L.rank look.now)
         (pending_term first.entry)) ≡ None }
@@ -77,19 +94,13 @@ fn collect<L: Look>(first: Pending<'_>, look: &L, conds: &mut Vec<Cond>) -> Resu
                 }
             }
             Term::Susp(swaps, x) => {
-                let name = preimage_from(p.base, p.end, swaps.items(), p.name);
-                let var = Var {
-                    num: p.base + x.num,
-                };
-                match look.look(var) {
-                    None => conds.push(Cond { name, var })?,
+                let there = at_variable(&p, swaps.items(), *x);
+                match look.look(there.var) {
+                    None => conds.push(there)?,
                     Some(c) => {
-                        let there = Cond { name, var };
-                        if is_sought(&sought, &there) {
-                            continue;
+                        if !seek(&mut sought, &there)? {
+                            left.push(Pending::bound(there.name, c))?;
                         }
-                        seek(&mut sought, &there)?;
-                        left.push(Pending::bound(name, c))?;
                     }
                 }
             }
@@ -98,8 +109,8 @@ fn collect<L: Look>(first: Pending<'_>, look: &L, conds: &mut Vec<Cond>) -> Resu
     Ok(())
 }
 
-/// Puts the conditions to which `a # t` reduces under the bindings behind others; one may come more than once.
-/// `Refuted` comes exactly where there are none.
+/// Puts the conditions to which `a # t` reduces under the bindings behind others, from the last to the first; of those
+/// that come more than once some may be left out. `Refuted` comes exactly where there are none.
 pub fn add_reduced<L: Look>(
     a: Name,
     t: &Closure<'_>,
@@ -108,14 +119,16 @@ pub fn add_reduced<L: Look>(
 ) -> Result<(), FreshError>
     ensures added { OnOk result (added (by_rules a (carried_out (L.bound look.now) (L.rank look.now)
         (closure_term t.now))) conds.old.items ≡ collected (Some conds.new.items)) }
+    ensures behind { OnOk result (StandBehind (by_rules a (carried_out (L.bound look.now)
+        (L.rank look.now) (closure_term t.now))) conds.old.items conds.new.items) }
     ensures refuted { IsErrOf result FreshError.Refuted →
         by_rules a (carried_out (L.bound look.now) (L.rank look.now) (closure_term t.now)) ≡ None }
 {
     collect(Pending::bound(a, t.lent()), look, conds)
 }
 
-/// Puts the conditions to which `a # x` reduces under the bindings behind others; one may come more than once.
-/// `Refuted` comes exactly where there are none.
+/// Puts the conditions to which `a # x` reduces under the bindings behind others, from the last to the first; of those
+/// that come more than once some may be left out. `Refuted` comes exactly where there are none.
 pub fn add_reduced_var<L: Look>(
     a: Name,
     x: Var,
@@ -124,6 +137,8 @@ pub fn add_reduced_var<L: Look>(
 ) -> Result<(), FreshError>
     ensures added { OnOk result (added (by_rules a (carried_out (L.bound look.now) (L.rank look.now)
         (susp [] x))) conds.old.items ≡ collected (Some conds.new.items)) }
+    ensures behind { OnOk result (StandBehind (by_rules a (carried_out (L.bound look.now)
+        (L.rank look.now) (susp [] x))) conds.old.items conds.new.items) }
     ensures refuted { IsErrOf result FreshError.Refuted →
         by_rules a (carried_out (L.bound look.now) (L.rank look.now) (susp [] x)) ≡ None }
 {

@@ -1,6 +1,6 @@
 //! Names that a look has sought in variables.
 
-ghost use Rattle.std.specs.Prelude.{◌≡◌, ◌⊎◌, true, OnOk, IsErrOf};
+ghost use Rattle.std.specs.Prelude.{◌≡◌, ◌⊎◌, true, IfOk, OnOk, IsErrOf};
 ghost use Rattle.ap_defs.specs.declared.terms.Cond.{Cond as condition};
 ghost use Rattle.ap_fresh.specs.Sought.{cond_key, was_sought};
 
@@ -12,13 +12,17 @@ use std::collections::BTreeSet;
 /// A look that goes through no more variables than this keeps none.
 const FEW: u64 = 64;
 
-/// The names that a look has sought in variables, as conditions on these. They are kept from where more variables were
-/// gone through than there are numbers between their least and greatest one, so that one was gone through twice.
+/// The names that a look has sought in variables, as conditions on these. One is kept where more variables were gone
+/// through than there are numbers between the least and the greatest of theirs, so that one was gone through twice.
 #[derive(Drop)]
 pub(crate) struct Sought {
+    /// The variable of each name that is kept, and the name's sort and number.
     pub pairs: BTreeSet<(u64, (u32, u64))>,
+    /// How many variables were gone through, each as often as it was.
     pub count: u64,
+    /// The least number of such a variable.
     pub least: u64,
+    /// The greatest one.
     pub greatest: u64,
 }
 
@@ -47,17 +51,13 @@ fn key_of(c: &Cond) -> (u64, (u32, u64))
     (c.var.num, (c.name.sort, c.name.num))
 }
 
-/// Whether a name was sought in a variable, as far as this is kept.
-pub(crate) fn is_sought(sought: &Sought, c: &Cond) -> bool
-    ensures { result ≡ was_sought sought.now c.now }
-{
-    sought.pairs.contains(&key_of(c))
-}
-
-/// A name is sought in a variable.
-pub(crate) fn seek(sought: &mut Sought, c: &Cond) -> Result<(), FreshError>
+/// Seeks a name in a variable. The answer is whether it was sought there before, as far as this is kept.
+pub(crate) fn seek(sought: &mut Sought, c: &Cond) -> Result<bool, FreshError>
+    ensures before { IfOk result (λ before. before ≡ was_sought sought.old c.now) }
     ensures sought { OnOk result ((d : condition) → was_sought sought.new d ≡ true →
         (was_sought sought.old d ≡ true) ⊎ (d ≡ c.now)) }
+    ensures kept { OnOk result ((d : condition) → was_sought sought.old d ≡ true →
+        was_sought sought.new d ≡ true) }
     ensures memory { IsErrOf result FreshError.Refuted → ⊥ }
 {
     sought.count = sought.count.saturating_add(1);
@@ -65,7 +65,9 @@ pub(crate) fn seek(sought: &mut Sought, c: &Cond) -> Result<(), FreshError>
     sought.greatest = sought.greatest.max(c.var.num);
     let numbers = sought.greatest.saturating_sub(sought.least);
     if sought.count > numbers.saturating_add(FEW) {
-        sought.pairs.insert(key_of(c))?;
+        let is_new = sought.pairs.insert(key_of(c))?;
+        Ok(!is_new)
+    } else {
+        Ok(sought.pairs.contains(&key_of(c)))
     }
-    Ok(())
 }

@@ -1,5 +1,6 @@
 -- Looking back through what stands for identifiers.
-use Rattle.std.proofs.Common.{◌≡◌, ◌<◌, ◌+◌, ℕ, Bool, true, false, List, [], ◌∷◌, ◌++◌, length, get_or, take, refl, sym, ap, ◌∙◌, add-one}
+use Rattle.std.proofs.Common.{◌≡◌, ◌<◌, ◌+◌, ℕ, Bool, true, false, List, [], ◌∷◌, ◌++◌, length, get_or, map, take, refl, sym, ap, ◌∙◌, add-one}
+use Rattle.std.proofs.lemmas.List.{map-append}
 use Rattle.std.proofs.Math.Seq.{take-suc}
 use Rattle.std.specs.Prelude.{if◌then◌else◌, MatchOption, Option, Some, None}
 use Rattle.ap_defs.specs.declared.terms.Name.{Name}
@@ -93,3 +94,9 @@ module _ (ss : List Standing) (i j : ℕ) (s : Standing) (e : OpenEnvironment) (
 
   pub term_further : (x : Var) → term_brought s x ≡ None → item_term s x ≡ None → (environment_from (take j ss) e).terms x ≡ (environment_from (take i ss) e).terms x
   term_further x f g = sym (ap (λ (z : OpenEnvironment). z.terms x) with_last ∙ term_kept s (environment_from (take j ss) e) x f g)
+
+-- one more of those that a function makes of a list
+pub mapped_next : {X Y : Type 0} (f : X → Y) (xs : List X) (i : ℕ) (d : X) (ys zs : List Y) → i < length xs → ys ≡ map f (take i xs) → zs ≡ ys ++ f (get_or xs i d) ∷ [] → zs ≡ map f (take (i + 1) xs)
+mapped_next f xs i d ys zs h so_far put =
+    put ∙ ap (λ us. us ++ f (get_or xs i d) ∷ []) so_far ∙ sym (map-append f (take i xs) (get_or xs i d ∷ []))
+    ∙ ap (map f) (sym (take-suc xs i d h)) ∙ ap (λ n. map f (take n xs)) (sym (add-one i))

@@ -86,39 +86,45 @@ fn moved_suspension<'a>(
     Ok(Head::Susp(all, x))
 }
 
+/// A term on which swappings act, which are shared.
+fn moved<'a>(swaps: &Rc<Vec<Swap>>, t: Cited<'a>) -> Result<Closure<'a>, Memory>
+    ensures term { IfOk result (λ u.
+        scoped_term u ≡ act_term swaps.now.value.items (cited_term t.entry)) }
+    ensures of { IfOk result (λ u. (ts : table) → IsCitedIn ts t.entry → IsClosureIn ts u) }
+{
+    Ok(Closure::Moved(swaps.clone()?, t))
+}
+
 /// The head of a pair on which swappings act.
 fn moved_pair<'a>(
-    swaps: Rc<Vec<Swap>>,
+    swaps: &Rc<Vec<Swap>>,
     left: Cited<'a>,
     right: Cited<'a>,
 ) -> Result<Head<'a>, Memory>
     ensures term { IfOk result (λ h. head_term h
-        ≡ act_term swaps.value.items (pair (cited_term left.entry) (cited_term right.entry))) }
+        ≡ act_term swaps.now.value.items
+        (pair (cited_term left.entry) (cited_term right.entry))) }
     ensures of { IfOk result (λ h. (ts : table) → IsCitedIn ts left.entry →
         IsCitedIn ts right.entry → IsHeadIn ts h) }
 {
-    let same = swaps.clone()?;
-    let left = Closure::Moved(same, left);
-    let right = Closure::Moved(swaps, right);
+    let left = moved(swaps, left)?;
+    let right = moved(swaps, right)?;
     Ok(Head::Pair(left, right))
 }
 
 /// The head of a term on which swappings act.
-fn moved_head<'a>(alloc: Global, swaps: Rc<Vec<Swap>>, t: Cited<'a>) -> Result<Head<'a>, Memory>
+fn moved_head<'a>(alloc: Global, swaps: &Rc<Vec<Swap>>, t: Cited<'a>) -> Result<Head<'a>, Memory>
     ensures term { IfOk result (λ h.
-        head_term h ≡ act_term swaps.value.items (cited_term t.entry)) }
+        head_term h ≡ act_term swaps.now.value.items (cited_term t.entry)) }
     ensures of { IfOk result (λ h. (ts : table) → IsCitedIn ts t.entry → IsHeadIn ts h) }
 {
     match layer_of(t) {
         Layer::Unit => Ok(Head::Unit),
-        Layer::Name(a) => Ok(Head::Name(image(&swaps, a))),
-        Layer::Susp(more, x) => moved_suspension(alloc, &swaps, more, x),
+        Layer::Name(a) => Ok(Head::Name(image(swaps, a))),
+        Layer::Susp(more, x) => moved_suspension(alloc, swaps, more, x),
         Layer::Pair(left, right) => moved_pair(swaps, left, right),
-        Layer::App(f, argument) => Ok(Head::App(f, Closure::Moved(swaps, argument))),
-        Layer::Abs(a, body) => {
-            let a = image(&swaps, a);
-            Ok(Head::Abs(a, Closure::Moved(swaps, body)))
-        }
+        Layer::App(f, argument) => Ok(Head::App(f, moved(swaps, argument)?)),
+        Layer::Abs(a, body) => Ok(Head::Abs(image(swaps, a), moved(swaps, body)?)),
     }
 }
 
@@ -131,7 +137,8 @@ fn head_moved_by<'a>(alloc: Global, swaps: Vec<Swap>, t: Cited<'a>) -> Result<He
     if swaps.is_empty() {
         return head_of(alloc, t);
     }
-    moved_head(alloc, Rc::new(alloc, swaps)?, t)
+    let swaps = Rc::new(alloc, swaps)?;
+    moved_head(alloc, &swaps, t)
 }
 
 /// The head of what stands for a suspended variable.
@@ -188,7 +195,7 @@ pub fn head_at<'a>(alloc: Global, t: &Closure<'a>) -> Result<Head<'a>, Memory>
     match t {
         Closure::Whole(t) => head_of(alloc, *t),
         Closure::Within(scope, t) => head_within(alloc, *scope, t),
-        Closure::Moved(swaps, t) => moved_head(alloc, swaps.clone()?, *t),
+        Closure::Moved(swaps, t) => moved_head(alloc, swaps, *t),
     }
 }
 

@@ -5,15 +5,16 @@
 //! compare stands on a stack, so no term is too deep, and of a closure no copy is made either.
 
 ghost use Rattle.std.specs.List.{All};
-ghost use Rattle.std.specs.Prelude.{◌≡◌, ◌++◌, [], ◌∷◌, length, reverse, IfOk, OnOk};
+ghost use Rattle.std.specs.Prelude.{◌≡◌, ◌++◌, [], ◌∷◌, List as list, length, reverse, IfOk, OnOk};
 ghost use Rattle.ap_defs.specs.Freshness.{Conds, alpha_under};
-ghost use Rattle.ap_defs.specs.Terms.{abs, susp};
+ghost use Rattle.ap_defs.specs.declared.terms.Swap.{Swap};
+ghost use Rattle.ap_defs.specs.Terms.{abs, app, name, pair, susp, unit};
 ghost use Rattle.ap_judge.specs.declared.equality.Compared.{Compared};
 ghost use Rattle.ap_judge.specs.Binders.{AreBinders, within_left, within_right};
 ghost use Rattle.ap_judge.specs.Comparisons.{are_alike, mark_of, compared_size};
-ghost use Rattle.ap_judge.specs.Closures.{scoped_term};
-ghost use Rattle.ap_judge.specs.Stacks.{AreWithin, IsTestedThere};
-ghost use Rattle.ap_judge.specs.Tables.{IsClosureIn, IsComparedIn};
+ghost use Rattle.ap_judge.specs.Closures.{head_term, scoped_term};
+ghost use Rattle.ap_judge.specs.Stacks.{AreWithin, IsTestedThere, all_waiting};
+ghost use Rattle.ap_judge.specs.Tables.{IsClosureIn, IsComparedIn, IsHeadIn};
 ghost use Rattle.ap_shared.specs.declared.arena.SharedTerms.{SharedTerms as table};
 ghost use Rattle.ap_shared.specs.Shared.{shared_at};
 ghost use Rattle.ap_shared.specs.SharedViews.{shared_terms};
@@ -46,7 +47,6 @@ pub(crate) struct Comparison<'a> {
 
 impl<'a> Comparison<'a> {
     /// The two terms come next, within all binders.
-    #[tactic(auto, using(crate::proofs::TableLemmas::compared_put))]
     fn put(&mut self, left: Closure<'a>, right: Closure<'a>) -> Result<(), Memory>
         ensures binders { self.new.binders ≡ self.old.binders }
         ensures pending { OnOk result (self.new.pending.items ≡ self.old.pending.items
@@ -125,48 +125,165 @@ fn are_suspended_alike(
     are_all_settled(alloc, answer, binders, p, q, x)
 }
 
+/// Whether a head is unit, as what is compared with it is.
+fn is_unit(right: Head<'_>) -> bool
+    ensures { (ds : Conds) (ss : list Swap) → result
+        ≡ alpha_under ds (within_left ss unit) (within_right ss (head_term right.entry)) }
+{
+    let Head::Unit = right else {
+        return false;
+    };
+    true
+}
+
+/// Whether a head is a name that means within binders what another does that is compared with it.
+fn is_name_alike(binders: &Binders, a: Name, right: Head<'_>) -> bool
+    requires { AreBinders binders.now }
+    ensures { (ds : Conds) → result ≡ alpha_under ds
+        (within_left binders.now.pairs.items (name a))
+        (within_right binders.now.pairs.items (head_term right.entry)) }
+{
+    let Head::Name(b) = right else {
+        return false;
+    };
+    binders.mean_same(a, b)
+}
+
+/// Compares a suspension with a head within binders.
+fn is_suspension_alike(
+    alloc: Global,
+    answer: &IndexedAnswer<'_>,
+    binders: &Binders,
+    p: &[Swap],
+    x: Var,
+    right: Head<'_>,
+) -> Result<bool, Memory>
+    requires { AreBinders binders.now }
+    ensures { IfOk result (λ yes. yes ≡ alpha_under answer.now.conds
+        (within_left binders.now.pairs.items (susp p.now x))
+        (within_right binders.now.pairs.items (head_term right.entry))) }
+{
+    let Head::Susp(q, y) = right else {
+        return Ok(false);
+    };
+    are_suspended_alike(alloc, answer, binders, p, x, &q, y)
+}
+
+/// Compares a pair with a head: the parts of both come next.
+fn compare_pairs<'a>(
+    walk: &mut Comparison<'a>,
+    t: Closure<'a>,
+    u: Closure<'a>,
+    right: Head<'a>,
+) -> Result<bool, Memory>
+    requires within { AreWithin mark_of (length walk.old.binders.pairs.items)
+        (reverse walk.old.pending.items) }
+    requires found { AreBinders walk.old.binders }
+    ensures tested { IfOk result (λ yes. (ds : Conds) (c : Compared) →
+        scoped_term c.left ≡ pair (scoped_term t.entry) (scoped_term u.entry) →
+        scoped_term c.right ≡ head_term right.entry →
+        IsTestedThere mark_of (are_alike ds) compared_size c
+        walk.old.binders.pairs.items walk.old.pending.items
+        walk.new.binders.pairs.items walk.new.pending.items yes) }
+    ensures found { OnOk result (AreBinders walk.new.binders) }
+    ensures of { OnOk result ((ts : table) → IsClosureIn ts t.entry → IsClosureIn ts u.entry →
+        IsHeadIn ts right.entry → All (IsComparedIn ts) walk.old.pending.items →
+        All (IsComparedIn ts) walk.new.pending.items) }
+{
+    let Head::Pair(v, w) = right else {
+        return Ok(false);
+    };
+    walk.put(u, w)?;
+    walk.put(t, v)?;
+    Ok(true)
+}
+
+/// Compares an application with a head: the arguments of both come next.
+fn compare_apps<'a>(
+    walk: &mut Comparison<'a>,
+    f: u32,
+    t: Closure<'a>,
+    right: Head<'a>,
+) -> Result<bool, Memory>
+    requires within { AreWithin mark_of (length walk.old.binders.pairs.items)
+        (reverse walk.old.pending.items) }
+    requires found { AreBinders walk.old.binders }
+    ensures tested { IfOk result (λ yes. (ds : Conds) (c : Compared) →
+        scoped_term c.left ≡ app f (scoped_term t.entry) →
+        scoped_term c.right ≡ head_term right.entry →
+        IsTestedThere mark_of (are_alike ds) compared_size c
+        walk.old.binders.pairs.items walk.old.pending.items
+        walk.new.binders.pairs.items walk.new.pending.items yes) }
+    ensures found { OnOk result (AreBinders walk.new.binders) }
+    ensures of { OnOk result ((ts : table) → IsClosureIn ts t.entry →
+        IsHeadIn ts right.entry → All (IsComparedIn ts) walk.old.pending.items →
+        All (IsComparedIn ts) walk.new.pending.items) }
+{
+    let Head::App(g, u) = right else {
+        return Ok(false);
+    };
+    if f != g {
+        return Ok(false);
+    }
+    walk.put(t, u)?;
+    Ok(true)
+}
+
+/// Compares an abstraction with a head: the bodies of both come next.
+fn compare_abstractions<'a>(
+    walk: &mut Comparison<'a>,
+    a: Name,
+    t: Closure<'a>,
+    right: Head<'a>,
+) -> Result<bool, Memory>
+    requires within { AreWithin mark_of (length walk.old.binders.pairs.items)
+        (reverse walk.old.pending.items) }
+    requires found { AreBinders walk.old.binders }
+    ensures tested { IfOk result (λ yes. (ds : Conds) (c : Compared) →
+        scoped_term c.left ≡ abs a (scoped_term t.entry) →
+        scoped_term c.right ≡ head_term right.entry →
+        IsTestedThere mark_of (are_alike ds) compared_size c
+        walk.old.binders.pairs.items walk.old.pending.items
+        walk.new.binders.pairs.items walk.new.pending.items yes) }
+    ensures found { OnOk result (AreBinders walk.new.binders) }
+    ensures of { OnOk result ((ts : table) → IsClosureIn ts t.entry →
+        IsHeadIn ts right.entry → All (IsComparedIn ts) walk.old.pending.items →
+        All (IsComparedIn ts) walk.new.pending.items) }
+{
+    match right {
+        Head::Abs(b, u) => compare_bodies(walk, (a, b), t, u),
+        _ => Ok(false),
+    }
+}
+
 /// Compares the heads of two terms within binders: their parts come next.
-#[tactic(auto, using(crate::proofs::ComparisonLemmas::units, crate::proofs::ComparisonLemmas::names, crate::proofs::ComparisonLemmas::others, crate::proofs::ComparisonLemmas::apps))]
 fn compare_heads<'a>(
     alloc: Global,
     answer: &IndexedAnswer<'_>,
     walk: &mut Comparison<'a>,
-    at: Compared<'a>,
+    at: &Compared<'a>,
 ) -> Result<bool, Memory>
     requires within { AreWithin mark_of (length walk.old.binders.pairs.items)
         (reverse walk.old.pending.items) }
     requires found { AreBinders walk.old.binders }
     ensures tested { IfOk result (λ yes.
-        IsTestedThere mark_of (are_alike answer.now.conds) compared_size at.entry
+        IsTestedThere mark_of (are_alike answer.now.conds) compared_size at.now
         walk.old.binders.pairs.items walk.old.pending.items
         walk.new.binders.pairs.items walk.new.pending.items yes) }
     ensures found { OnOk result (AreBinders walk.new.binders) }
-    ensures of { OnOk result ((ts : table) → IsComparedIn ts at.entry →
+    ensures of { OnOk result ((ts : table) → IsComparedIn ts at.now →
         All (IsComparedIn ts) walk.old.pending.items →
         All (IsComparedIn ts) walk.new.pending.items) }
 {
     let left = head_at(alloc, &at.left)?;
     let right = head_at(alloc, &at.right)?;
-    match (left, right) {
-        (Head::Unit, Head::Unit) => Ok(true),
-        (Head::Name(a), Head::Name(b)) => Ok(walk.binders.mean_same(a, b)),
-        (Head::Susp(p, x), Head::Susp(q, y)) => {
-            are_suspended_alike(alloc, answer, &walk.binders, &p, x, &q, y)
-        }
-        (Head::Pair(t, u), Head::Pair(v, w)) => {
-            walk.put(u, w)?;
-            walk.put(t, v)?;
-            Ok(true)
-        }
-        (Head::App(f, t), Head::App(g, u)) => {
-            if f != g {
-                return Ok(false);
-            }
-            walk.put(t, u)?;
-            Ok(true)
-        }
-        (Head::Abs(a, t), Head::Abs(b, u)) => compare_bodies(walk, (a, b), t, u),
-        _ => Ok(false),
+    match left {
+        Head::Unit => Ok(is_unit(right)),
+        Head::Name(a) => Ok(is_name_alike(&walk.binders, a, right)),
+        Head::Susp(p, x) => is_suspension_alike(alloc, answer, &walk.binders, &p, x, right),
+        Head::Pair(t, u) => compare_pairs(walk, t, u, right),
+        Head::App(f, t) => compare_apps(walk, f, t, right),
+        Head::Abs(a, t) => compare_abstractions(walk, a, t, right),
     }
 }
 
@@ -197,7 +314,30 @@ fn compare<'a>(
     if walk.binders.pairs.is_empty() && is_same_line(&left, &right) {
         return Ok(true);
     }
-    compare_heads(alloc, answer, walk, Compared { left, right, mark })
+    compare_heads(alloc, answer, walk, &Compared { left, right, mark })
+}
+
+/// Whether all terms that are left to compare are equal, each two within their binders.
+fn are_all_equal(
+    alloc: Global,
+    answer: &IndexedAnswer<'_>,
+    terms: &SharedTerms,
+    walk: &mut Comparison<'_>,
+) -> Result<bool, Memory>
+    requires within { AreWithin mark_of (length walk.old.binders.pairs.items)
+        (reverse walk.old.pending.items) }
+    requires found { AreBinders walk.old.binders }
+    requires of { All (IsComparedIn terms.now) walk.old.pending.items }
+    ensures { IfOk result (λ yes. yes ≡ all_waiting mark_of (are_alike answer.now.conds)
+        walk.old.binders.pairs.items (reverse walk.old.pending.items)) }
+{
+    'terms: while let Some(next) = walk.pending.pop() {
+        walk.binders.truncate(next.mark)?;
+        if !compare(alloc, answer, terms, walk, next)? {
+            return Ok(false);
+        }
+    }
+    Ok(true)
 }
 
 /// Whether the terms of two closures are equal under the answer's conditions. Lines that they cite are of
@@ -219,13 +359,7 @@ pub fn are_equal_at(
         pending: Vec::new(alloc),
     };
     walk.put(t, u)?;
-    'terms: while let Some(next) = walk.pending.pop() {
-        walk.binders.truncate(next.mark)?;
-        if !compare(alloc, answer, terms, &mut walk, next)? {
-            return Ok(false);
-        }
-    }
-    Ok(true)
+    are_all_equal(alloc, answer, terms, &mut walk)
 }
 
 /// Whether the terms of two lines of a table are equal under the answer's conditions. `Err` is want of memory.

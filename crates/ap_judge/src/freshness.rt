@@ -32,12 +32,12 @@ fn look<'a>(
     answer: &IndexedAnswer<'_>,
     a: Name,
     pending: &mut Vec<Closure<'a>>,
-    t: Closure<'a>,
+    t: &Closure<'a>,
 ) -> Result<bool, Memory>
-    ensures { IfOk result (λ yes. IsTested (is_fresh_for answer.now.conds a) size_at t.entry
+    ensures { IfOk result (λ yes. IsTested (is_fresh_for answer.now.conds a) size_at t.now
         pending.old.items pending.new.items yes) }
 {
-    match head_at(alloc, &t)? {
+    match head_at(alloc, t)? {
         Head::Unit => Ok(true),
         Head::Name(b) => Ok(!is_same(&a, &b)),
         Head::Susp(swaps, x) => Ok(is_fresh_for_var(answer, a, &swaps, x)),
@@ -73,7 +73,7 @@ pub fn is_fresh_at(
     let mut pending = Vec::new(alloc);
     pending.push(t)?;
     while let Some(next) = pending.pop() {
-        if !look(alloc, answer, a, &mut pending, next)? {
+        if !look(alloc, answer, a, &mut pending, &next)? {
             return Ok(false);
         }
     }

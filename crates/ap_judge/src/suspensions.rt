@@ -1,6 +1,6 @@
 //! Suspensions that are compared within binders.
 
-ghost use Rattle.std.specs.Prelude.{◌≡◌, IfOk};
+ghost use Rattle.std.specs.Prelude.{◌≡◌, ◌&&◌, IfOk};
 ghost use Rattle.ap_defs.specs.Permutations.{inverse};
 ghost use Rattle.ap_judge.specs.Binders.{AreBinders};
 ghost use Rattle.ap_judge.specs.Settled.{are_all_settled as all_settled, are_bound_settled, are_settled, is_settled};
@@ -103,6 +103,44 @@ fn settles_bound(
     true
 }
 
+/// Whether they do so on each name of both lists of swappings.
+fn settles_both(
+    answer: &IndexedAnswer<'_>,
+    binders: &Binders,
+    p: &Images<'_>,
+    q: &Images<'_>,
+    var: Var,
+) -> bool
+    requires { AreBinders binders.now }
+    ensures { result
+        ≡ (are_settled answer.now.conds binders.now.pairs.items p.now q.now var p.now
+        && are_settled answer.now.conds binders.now.pairs.items p.now q.now var q.now) }
+{
+    settles_each(answer, binders, p, q, var, p.swaps())
+        && settles_each(answer, binders, p, q, var, q.swaps())
+}
+
+/// Whether they do so on each name of which they make one that is bound, which is sought from there.
+fn settles_back(
+    alloc: Global,
+    answer: &IndexedAnswer<'_>,
+    binders: &Binders,
+    p: &Images<'_>,
+    q: &Images<'_>,
+    var: Var,
+) -> Result<bool, Memory>
+    requires { AreBinders binders.now }
+    ensures { IfOk result (λ yes. yes
+        ≡ are_bound_settled answer.now.conds binders.now.pairs.items p.now q.now var
+        binders.now.pairs.items) }
+{
+    let before_p = reversed(alloc, p.swaps())?;
+    let before_q = reversed(alloc, q.swaps())?;
+    let back_p = Images::of(alloc, &before_p)?;
+    let back_q = Images::of(alloc, &before_q)?;
+    Ok(settles_bound(answer, binders, p, q, &back_p, &back_q, var))
+}
+
 /// Whether they do so on each name.
 pub(crate) fn are_all_settled(
     alloc: Global,
@@ -116,15 +154,10 @@ pub(crate) fn are_all_settled(
     ensures { IfOk result (λ yes. yes
         ≡ all_settled answer.now.conds binders.now.pairs.items p.now q.now var) }
 {
-    let before_p = reversed(alloc, p)?;
-    let before_q = reversed(alloc, q)?;
-    let back_p = Images::of(alloc, &before_p)?;
-    let back_q = Images::of(alloc, &before_q)?;
     let p = Images::of(alloc, p)?;
     let q = Images::of(alloc, q)?;
-    Ok(
-        settles_each(answer, binders, &p, &q, var, p.swaps())
-            && settles_each(answer, binders, &p, &q, var, q.swaps())
-            && settles_bound(answer, binders, &p, &q, &back_p, &back_q, var),
-    )
+    if !settles_both(answer, binders, &p, &q, var) {
+        return Ok(false);
+    }
+    settles_back(alloc, answer, binders, &p, &q, var)
 }

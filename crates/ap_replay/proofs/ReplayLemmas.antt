@@ -1,12 +1,13 @@
 -- Choices of a problem's search, and the branches that stand at them.
-use Rattle.std.proofs.Common.{◌≡◌, ℕ, zero, suc, ◌-◌, ◌<◌, ◌≤◌, lt-ltb, le-ltb, List, [], ◌∷◌, length, map, refl, sym, ap, ◌∙◌, subst, Bool, true, false, arith}
+use Rattle.std.proofs.Common.{◌≡◌, ℕ, zero, suc, ◌-◌, ◌+◌, ◌<◌, ◌≤◌, ◌↔◌, lt-ltb, le-ltb, List, [], ◌∷◌, ◌++◌, length, map, drop, get_or, refl, sym, ap, ◌∙◌, subst, append_assoc, Bool, true, false, arith}
 use Rattle.std.specs.Prelude.{Option, Some, None, option_map, Vec, nat_lt, if◌then◌else◌, slice_get}
+use Rattle.std.proofs.lemmas.List.{drop_more}
 use Rattle.ap_defs.specs.Answers.{NominalOut, outs_at}
 use Rattle.ap_defs.specs.Goals.{NominalQuery}
 use Rattle.ap_defs.specs.Paths.{Choice}
 use Rattle.ap_defs.specs.declared.paths.Node.{Node}
 use Rattle.ap_defs.specs.declared.paths.Node.TheVariants as nodes
-use Rattle.ap_paths.specs.Trees.{IsChoice}
+use Rattle.ap_paths.specs.Trees.{Choices, GoesOn, InChoiceTree, IsChoice}
 use Rattle.ap_search.specs.PathTrees.{query_choice, query_choices, query_kept}
 use Rattle.ap_backchain.specs.Branches.{IsBranchOf, IsDescentOf, IsNodeAt, choices_at, path_of_branch, path_of_descent}
 use Rattle.ap_backchain.specs.Ends.{kept_out}
@@ -45,6 +46,19 @@ module _ (p : Problem) (d : Descent) (w : Option ℕ) (k : ℕ) (h : HasQuery p)
 
   pub given : IsChoice (problem_choices p (path_of_descent d)) k → IsChoice w k
   given chosen = subst (λ (o : Option ℕ). IsChoice o k) (sym choices_there) chosen
+
+-- One more choice of a path, from where the choices so far led.
+module _ (c : Choices) (all p q : List ℕ) (i k d : ℕ) (h : i < length all) (at : k ≡ get_or all i d) (further : q ≡ p ++ k ∷ []) where
+  choices_left : drop i all ≡ k ∷ drop (i + 1) all
+  choices_left = drop_more all i d h ∙ ap (λ x. x ∷ drop (i + 1) all) (sym at)
+
+  pub same_path : p ++ drop i all ≡ all → q ++ drop (i + 1) all ≡ all
+  same_path e = ap (λ x. x ++ drop (i + 1) all) further ∙ append_assoc p (k ∷ []) (drop (i + 1) all) ∙ ap (λ ks. p ++ ks) (sym choices_left) ∙ e
+
+  pub same_there : IsChoice (c p) k → (GoesOn c p (drop i all) ↔ InChoiceTree c all) → (GoesOn c q (drop (i + 1) all) ↔ InChoiceTree c all)
+  same_there chosen e =
+      let goes = subst (λ ks. GoesOn c p ks ↔ InChoiceTree c all) choices_left e in
+      subst (λ x. GoesOn c x (drop (i + 1) all) ↔ InChoiceTree c all) (sym further) ((λ on. goes.0 (chosen, on)), (λ there. (goes.1 there).1))
 
 -- the outputs of a branch are those at its path
 pub outs_there : (paths : Paths) (p : Problem) (os : List NominalOut) (path : List ℕ) → HasQuery p

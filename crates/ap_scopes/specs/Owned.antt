@@ -1,12 +1,9 @@
--- Trees that are taken apart, put together again, and what is taken on the right.
-use Rattle.std.specs.Prelude.{[]}
+-- Trees that are taken apart, put together again.
 use Rattle.ap_trees.specs.Goals as goals
 use Rattle.ap_trees.specs.Goals.{Goal}
 use Rattle.ap_trees.specs.Terms as terms
 use Rattle.ap_trees.specs.Terms.{Term}
 use Rattle.ap_trees.specs.Trees.{goal_of_tree, term_of}
-use Rattle.ap_trees.specs.declared.trees.Tree.{Tree}
-use Rattle.ap_trees.specs.declared.trees.Tree as code
 use Rattle.ap_scopes.specs.declared.owned.TakenTree.{TakenTree}
 use Rattle.ap_scopes.specs.declared.owned.TakenTree.TheVariants as trees
 use Rattle.ap_scopes.specs.declared.owned.TakenGoal.{TakenGoal}
@@ -22,17 +19,3 @@ goal_together (apart.Both g h) = goals.Both (goal_of_tree g) (goal_of_tree h)
 goal_together (apart.Either g h) = goals.Either (goal_of_tree g) (goal_of_tree h)
 goal_together (apart.Equal t u) = goals.Equation (term_of t) (term_of u)
 goal_together (apart.Whole g) = goal_of_tree g
-
-abbrev pub right_part : Tree → Term
-right_part (code.Cell' p t q u) = term_of u
-right_part (code.Pair' p t q u) = term_of u
-right_part t = terms.Unit
-
-abbrev pub right_goal : Goal → Goal
-right_goal (goals.Both g h) = h
-right_goal (goals.Either g h) = h
-right_goal g = goals.Atom [] []
-
-abbrev pub right_side : Goal → Term
-right_side (goals.Equation t u) = u
-right_side g = terms.Unit

@@ -1,14 +1,14 @@
 //! What the items so far declare.
-ghost use Rattle.std.specs.Prelude.{◌≡◌, [], IfOk, IfSome};
+ghost use Rattle.std.specs.Prelude.{◌≡◌};
 ghost use Rattle.std.specs.Option.{option_map};
-ghost use Rattle.ap_defs.specs.Types.{type_of, signature_of};
+ghost use Rattle.ap_defs.specs.Types.{type_of};
 ghost use Rattle.ap_scopes.specs.Declarations as spec;
 ghost use Rattle.ap_scopes.specs.Declarations.{type_named, constructor_place, predicate_place};
 ghost use Rattle.ap_scopes.specs.Flaws as flaws;
 ghost use Rattle.ap_scopes.specs.Views.{declared_of, IsIndexed, IsSmall};
 
 use crate::words::Words;
-use ap_defs::goals::{Constructor, Signature};
+use ap_defs::goals::Signature;
 use ap_defs::lists::List;
 use ap_defs::terms::Ty;
 use std::alloc::Global;

@@ -1,11 +1,11 @@
 //! Goals with numbers for their words.
-ghost use Rattle.std.specs.Prelude.{◌≡◌, ◌<◌, ◌≤◌, ◌+◌, ◌^◌, IfOk, OnOk, IfSome, map};
+ghost use Rattle.std.specs.Prelude.{◌≡◌, ◌<◌, IfOk, OnOk, IfSome};
 ghost use Rattle.ap_defs.specs.RawTerms.{raw_of};
 ghost use Rattle.ap_defs.specs.Goals.{goal_over};
 ghost use Rattle.ap_defs.specs.Limits.{size_limit};
 ghost use Rattle.ap_spines.specs.Spines.{raw_goal_within};
 ghost use Rattle.ap_trees.specs.Goals.{Atom, Equation, Freshness, Some_variable, New_name};
-ghost use Rattle.ap_trees.specs.Trees.{goal_of_tree, term_of, trees_of, name_of_binder};
+ghost use Rattle.ap_trees.specs.Trees.{goal_of_tree, term_of, trees_of};
 ghost use Rattle.ap_scopes.specs.Resolution as spec;
 ghost use Rattle.ap_scopes.specs.Resolution.{made};
 ghost use Rattle.ap_scopes.specs.Declarations.{predicate_place};

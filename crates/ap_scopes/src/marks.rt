@@ -8,6 +8,8 @@ ghost use Rattle.ap_scopes.specs.Marks.{word_mark};
 pub(crate) const MARKS: usize = 1024;
 
 /// A number below 1,024 that equal words share.
+///
+/// Any multiplier would do; under 207 short words that differ in a digit or two seldom share a mark.
 pub(crate) fn mark(word: &str) -> usize
     ensures value { result ≡ word_mark word.now }
     ensures below { result < 1024 }

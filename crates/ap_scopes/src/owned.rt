@@ -4,11 +4,11 @@ ghost use Rattle.std.specs.Prelude.{◌≡◌, [], IfOk, OnOk, map};
 ghost use Rattle.std.specs.Option.{option_map};
 ghost use Rattle.ap_defs.specs.Goals.{goal_over};
 ghost use Rattle.ap_defs.specs.RawTerms.{raw_of};
-ghost use Rattle.ap_trees.specs.Goals.{Atom, Equation};
+ghost use Rattle.ap_trees.specs.Goals.{Equation};
 ghost use Rattle.ap_trees.specs.Trees.{goal_of_tree, term_of, trees_of};
-ghost use Rattle.ap_scopes.specs.Owned.{right_goal, right_part, right_side, goal_together, tree_together};
+ghost use Rattle.ap_scopes.specs.Owned.{goal_together, tree_together};
 ghost use Rattle.ap_scopes.specs.Resolution as spec;
-ghost use Rattle.ap_scopes.specs.Views.{IsIndexed, IsSmall, IsNumbered, declared_of, found_of, scope_of};
+ghost use Rattle.ap_scopes.specs.Views.{IsIndexed, IsSmall, IsNumbered, declared_of, found_of};
 
 use crate::declarations::Declarations;
 use crate::goals::resolved_goal;
@@ -40,17 +40,6 @@ enum TakenGoal<'a> {
     Whole(GoalTree<'a>),
 }
 
-/// Takes the right part of a cell or of a pair.
-fn take_right<'a>(tree: &mut Tree<'a>) -> Tree<'a>
-    ensures { term_of result ≡ right_part tree.old }
-{
-    match tree {
-        Tree::Cell(_, right) => mem::replace(&mut **right, Tree::Unit),
-        Tree::Pair(_, right) => mem::replace(&mut **right, Tree::Unit),
-        _ => Tree::Unit,
-    }
-}
-
 /// A tree, taken apart.
 fn tree_apart<'a>(tree: Tree<'a>) -> TakenTree<'a>
     ensures { tree_together result ≡ term_of tree.entry }
@@ -59,73 +48,64 @@ fn tree_apart<'a>(tree: Tree<'a>) -> TakenTree<'a>
     match &mut whole {
         Tree::Cell(head, _) => {
             let head = mem::replace(&mut **head, Tree::Unit);
-            return TakenTree::Cell(head, take_right(&mut whole));
+            let Tree::Cell(_, tail) = &mut whole else {
+                unreachable!()
+            };
+            let tail = mem::replace(&mut **tail, Tree::Unit);
+            return TakenTree::Cell(head, tail);
         }
         Tree::Pair(left, _) => {
             let left = mem::replace(&mut **left, Tree::Unit);
-            return TakenTree::Pair(left, take_right(&mut whole));
+            let Tree::Pair(_, right) = &mut whole else {
+                unreachable!()
+            };
+            let right = mem::replace(&mut **right, Tree::Unit);
+            return TakenTree::Pair(left, right);
         }
         _ => {}
     }
     TakenTree::Whole(whole)
 }
 
-/// What is left where a goal was. It takes no memory.
-fn no_goal<'a>(alloc: Global) -> GoalTree<'a>
-    ensures { goal_of_tree result ≡ Atom [] [] }
-{
-    GoalTree::Atom("", List::of(Vec::new(alloc)))
-}
-
-/// Takes the goal right of `,` or `;`.
-fn take_back<'a>(alloc: Global, goal: &mut GoalTree<'a>) -> GoalTree<'a>
-    ensures { goal_of_tree result ≡ right_goal (goal_of_tree goal.old) }
-{
-    match goal {
-        GoalTree::Both(_, right) => mem::replace(&mut **right, no_goal(alloc)),
-        GoalTree::Either(_, right) => mem::replace(&mut **right, no_goal(alloc)),
-        _ => no_goal(alloc),
-    }
-}
-
-/// Takes the right side of an equation.
-fn take_side<'a>(goal: &mut GoalTree<'a>) -> Tree<'a>
-    ensures { term_of result ≡ right_side (goal_of_tree goal.old) }
-{
-    match goal {
-        GoalTree::Equal(_, right) => mem::replace(right, Tree::Unit),
-        _ => Tree::Unit,
-    }
-}
-
-/// The tree of a goal, taken apart.
-fn goal_apart<'a>(alloc: Global, goal: GoalTree<'a>) -> TakenGoal<'a>
+/// The tree of a goal, taken apart. What is left where its goals were takes no memory.
+fn goal_apart<'a>(goal: GoalTree<'a>) -> TakenGoal<'a>
     ensures { goal_together result ≡ goal_of_tree goal.entry }
 {
     let mut whole = goal;
     match &mut whole {
         GoalTree::Both(left, _) => {
-            let left = mem::replace(&mut **left, no_goal(alloc));
-            return TakenGoal::Both(left, take_back(alloc, &mut whole));
+            let left = mem::replace(&mut **left, GoalTree::Equal(Tree::Unit, Tree::Unit));
+            let GoalTree::Both(_, right) = &mut whole else {
+                unreachable!()
+            };
+            let right = mem::replace(&mut **right, GoalTree::Equal(Tree::Unit, Tree::Unit));
+            return TakenGoal::Both(left, right);
         }
         GoalTree::Either(left, _) => {
-            let left = mem::replace(&mut **left, no_goal(alloc));
-            return TakenGoal::Either(left, take_back(alloc, &mut whole));
+            let left = mem::replace(&mut **left, GoalTree::Equal(Tree::Unit, Tree::Unit));
+            let GoalTree::Either(_, right) = &mut whole else {
+                unreachable!()
+            };
+            let right = mem::replace(&mut **right, GoalTree::Equal(Tree::Unit, Tree::Unit));
+            return TakenGoal::Either(left, right);
         }
         GoalTree::Equal(left, _) => {
             let left = mem::replace(left, Tree::Unit);
-            return TakenGoal::Equal(left, take_side(&mut whole));
+            let GoalTree::Equal(_, right) = &mut whole else {
+                unreachable!()
+            };
+            let right = mem::replace(right, Tree::Unit);
+            return TakenGoal::Equal(left, right);
         }
         _ => {}
     }
     TakenGoal::Whole(whole)
 }
 
-/// A left part with numbers for its words. Its tree is let go.
+/// A term with numbers for its words, whose tree is let go as a whole.
 fn own_part<'a>(
     alloc: Global,
     declared: &Declarations<'_>,
-    scope: &Brought<'_, 'a>,
     tree: Tree<'a>,
     found: &mut Identifiers<'a>,
 ) -> Result<Raw, Memory>
@@ -133,21 +113,22 @@ fn own_part<'a>(
     requires small { IsSmall declared.now }
     requires numbered { IsNumbered found.old }
     ensures value { IfOk result (λ t. (raw_of t, found_of found.new)
-        ≡ spec.resolved_term (declared_of declared.now) (scope_of scope.now)
+        ≡ spec.resolved_term (declared_of declared.now) []
         (term_of tree.entry) (found_of found.old)) }
     ensures numbered { OnOk result (IsNumbered found.new) }
 {
-    let made = resolved_term(alloc, declared, scope, &tree, found)?;
+    let made = resolved_term(alloc, declared, &Brought::Nothing, &tree, found)?;
     drop(tree);
     Ok(made)
 }
 
-/// A term with numbers for its words, whose tree is let go part by part. `Err` is want of memory.
+/// A term with numbers for its words. `Err` is want of memory.
+///
+/// Its tree is let go part by part, along the tails of lists and the right parts of pairs.
 #[tactic(auto, using(crate::proofs::Orders::made_is))]
 fn own_term<'a>(
     alloc: Global,
     declared: &Declarations<'_>,
-    scope: &Brought<'_, 'a>,
     tree: Tree<'a>,
     found: &mut Identifiers<'a>,
 ) -> Result<Raw, Memory>
@@ -155,7 +136,7 @@ fn own_term<'a>(
     requires small { IsSmall declared.now }
     requires numbered { IsNumbered found.old }
     ensures value { IfOk result (λ t. (raw_of t, found_of found.new)
-        ≡ spec.resolved_term (declared_of declared.now) (scope_of scope.now)
+        ≡ spec.resolved_term (declared_of declared.now) []
         (term_of tree.entry) (found_of found.old)) }
     ensures numbered { OnOk result (IsNumbered found.new) }
 {
@@ -164,15 +145,15 @@ fn own_term<'a>(
     'resolving: loop {
         match tree_apart(rest) {
             TakenTree::Cell(head, tail) => {
-                layers.push(RawLayer::Cell(own_part(alloc, declared, scope, head, found)?))?;
+                layers.push(RawLayer::Cell(own_part(alloc, declared, head, found)?))?;
                 rest = tail;
             }
             TakenTree::Pair(left, right) => {
-                layers.push(RawLayer::Left(own_part(alloc, declared, scope, left, found)?))?;
+                layers.push(RawLayer::Left(own_part(alloc, declared, left, found)?))?;
                 rest = right;
             }
             TakenTree::Whole(last) => {
-                let last = own_part(alloc, declared, scope, last, found)?;
+                let last = own_part(alloc, declared, last, found)?;
                 return close_raw(alloc, layers, last);
             }
         }
@@ -183,7 +164,6 @@ fn own_term<'a>(
 pub fn own_terms<'a>(
     alloc: Global,
     declared: &Declarations<'_>,
-    scope: &Brought<'_, 'a>,
     trees: List<Tree<'a>>,
     found: &mut Identifiers<'a>,
 ) -> Result<List<Raw>, Memory>
@@ -191,23 +171,22 @@ pub fn own_terms<'a>(
     requires small { IsSmall declared.now }
     requires numbered { IsNumbered found.old }
     ensures value { IfOk result (λ ts. (map raw_of ts, found_of found.new)
-        ≡ spec.resolved_terms (declared_of declared.now) (scope_of scope.now)
+        ≡ spec.resolved_terms (declared_of declared.now) []
         (trees_of trees.entry) (found_of found.old)) }
     ensures numbered { OnOk result (IsNumbered found.new) }
 {
     let trees = trees.into_vec();
     let mut terms = Vec::with_capacity(alloc, trees.len())?;
     for tree in trees {
-        terms.push(own_term(alloc, declared, scope, tree, found)?)?;
+        terms.push(own_term(alloc, declared, tree, found)?)?;
     }
     Ok(List::of(terms))
 }
 
-/// A goal left of `,` or `;` with numbers for its words. Its tree is let go.
+/// A goal with numbers for its words, whose tree is let go as a whole.
 fn own_front<'a>(
     alloc: Global,
     declared: &Declarations<'_>,
-    scope: &Brought<'_, 'a>,
     goal: GoalTree<'a>,
     found: &mut Identifiers<'a>,
 ) -> Result<Goal<Raw>, Memory>
@@ -215,11 +194,11 @@ fn own_front<'a>(
     requires small { IsSmall declared.now }
     requires numbered { IsNumbered found.old }
     ensures value { IfOk result (λ g. (goal_over raw_of g, found_of found.new)
-        ≡ spec.resolved_goal (declared_of declared.now) (scope_of scope.now)
+        ≡ spec.resolved_goal (declared_of declared.now) []
         (goal_of_tree goal.entry) (found_of found.old)) }
     ensures numbered { OnOk result (IsNumbered found.new) }
 {
-    let made = resolved_goal(alloc, declared, scope, &goal, found)?;
+    let made = resolved_goal(alloc, declared, &Brought::Nothing, &goal, found)?;
     drop(goal);
     Ok(made)
 }
@@ -229,7 +208,6 @@ fn own_front<'a>(
 fn own_sides<'a>(
     alloc: Global,
     declared: &Declarations<'_>,
-    scope: &Brought<'_, 'a>,
     left: Tree<'a>,
     right: Tree<'a>,
     found: &mut Identifiers<'a>,
@@ -238,21 +216,22 @@ fn own_sides<'a>(
     requires small { IsSmall declared.now }
     requires numbered { IsNumbered found.old }
     ensures value { IfOk result (λ g. (goal_over raw_of g, found_of found.new)
-        ≡ spec.resolved_goal (declared_of declared.now) (scope_of scope.now)
+        ≡ spec.resolved_goal (declared_of declared.now) []
         (Equation (term_of left.entry) (term_of right.entry)) (found_of found.old)) }
     ensures numbered { OnOk result (IsNumbered found.new) }
 {
-    let left = own_term(alloc, declared, scope, left, found)?;
-    let right = own_term(alloc, declared, scope, right, found)?;
+    let left = own_term(alloc, declared, left, found)?;
+    let right = own_term(alloc, declared, right, found)?;
     Ok(Goal::Equal(left, right))
 }
 
-/// A goal with numbers for its words, whose tree is let go part by part. `Err` is want of memory.
+/// A goal with numbers for its words. `Err` is want of memory.
+///
+/// Its tree is let go part by part, along what stands right of `,` and `;`, and through the sides of an equation there.
 #[tactic(auto, using(crate::proofs::Orders::made_is))]
 pub fn own_goal<'a>(
     alloc: Global,
     declared: &Declarations<'_>,
-    scope: &Brought<'_, 'a>,
     goal: GoalTree<'a>,
     found: &mut Identifiers<'a>,
 ) -> Result<Goal<Raw>, Memory>
@@ -260,30 +239,30 @@ pub fn own_goal<'a>(
     requires small { IsSmall declared.now }
     requires numbered { IsNumbered found.old }
     ensures value { IfOk result (λ g. (goal_over raw_of g, found_of found.new)
-        ≡ spec.resolved_goal (declared_of declared.now) (scope_of scope.now)
+        ≡ spec.resolved_goal (declared_of declared.now) []
         (goal_of_tree goal.entry) (found_of found.old)) }
     ensures numbered { OnOk result (IsNumbered found.new) }
 {
     let mut layers = Vec::new(alloc);
     let mut rest = goal;
     'resolving: loop {
-        match goal_apart(alloc, rest) {
+        match goal_apart(rest) {
             TakenGoal::Both(left, right) => {
-                let left = own_front(alloc, declared, scope, left, found)?;
+                let left = own_front(alloc, declared, left, found)?;
                 layers.push(both_layer(alloc, left)?)?;
                 rest = right;
             }
             TakenGoal::Either(left, right) => {
-                let left = own_front(alloc, declared, scope, left, found)?;
+                let left = own_front(alloc, declared, left, found)?;
                 layers.push(either_layer(alloc, left)?)?;
                 rest = right;
             }
             TakenGoal::Equal(left, right) => {
-                let last = own_sides(alloc, declared, scope, left, right, found)?;
+                let last = own_sides(alloc, declared, left, right, found)?;
                 return close_goal(alloc, layers, last);
             }
             TakenGoal::Whole(last) => {
-                let last = own_front(alloc, declared, scope, last, found)?;
+                let last = own_front(alloc, declared, last, found)?;
                 return close_goal(alloc, layers, last);
             }
         }
@@ -307,6 +286,6 @@ pub fn own_body<'a>(
 {
     match body {
         None => Ok(Goal::True),
-        Some(body) => own_goal(alloc, declared, &Brought::Nothing, body, found),
+        Some(body) => own_goal(alloc, declared, body, found),
     }
 }

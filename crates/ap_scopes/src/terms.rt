@@ -1,10 +1,10 @@
 //! Terms with numbers for their words.
-ghost use Rattle.std.specs.Prelude.{◌≡◌, ◌<◌, ◌≤◌, ◌+◌, ◌^◌, IfOk, OnOk, IfSome, map};
+ghost use Rattle.std.specs.Prelude.{◌≡◌, ◌<◌, IfOk, OnOk, IfSome, map};
 ghost use Rattle.ap_defs.specs.RawTerms.{raw_of};
 ghost use Rattle.ap_defs.specs.Limits.{size_limit};
 ghost use Rattle.ap_spines.specs.Spines.{raw_within};
 ghost use Rattle.ap_trees.specs.Trees.{term_of, terms_of, trees_of, name_of_binder};
-ghost use Rattle.ap_trees.specs.Terms.{OfWord, OfVar, Apply, Abs, Last, More};
+ghost use Rattle.ap_trees.specs.Terms.{Apply, Abs, Last, More};
 ghost use Rattle.ap_scopes.specs.Resolution as spec;
 ghost use Rattle.ap_scopes.specs.Resolution.{made};
 ghost use Rattle.ap_scopes.specs.Declarations.{constructor_place};

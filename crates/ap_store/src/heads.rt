@@ -106,6 +106,7 @@ fn last_alike(store: &Store<'_>, x: Var) -> Var
 }
 
 /// What stands at the head of what a variable stands for, which may stand behind many others. It takes no memory.
+#[inline(never)]
 fn head_behind<'a>(store: &Store<'a>, x: Var) -> Head<'a>
     ensures { IsAtHead (bindings_of store.now) (under (bindings_of store.now) (susp [] x)) result }
 {
@@ -119,6 +120,7 @@ fn head_behind<'a>(store: &Store<'a>, x: Var) -> Head<'a>
 }
 
 /// What stands at the head of what a variable stands for. It takes no memory.
+#[inline(always)]
 fn head_at<'a>(store: &Store<'a>, x: Var) -> Head<'a>
     ensures { IsAtHead (bindings_of store.now) (under (bindings_of store.now) (susp [] x)) result }
 {
@@ -129,6 +131,7 @@ fn head_at<'a>(store: &Store<'a>, x: Var) -> Head<'a>
 }
 
 /// What stands at the head of what a closure stands for under the bindings. It takes no memory.
+#[inline(always)]
 fn head_of<'a>(store: &Store<'a>, c: &Closure<'a>) -> Head<'a>
     ensures { IsAtHead (bindings_of store.now) (meaning_in store.now c.now) result }
 {
@@ -181,6 +184,7 @@ pub(crate) fn kept_behind(store: &Store<'_>, c: &Closure<'_>) -> Like
 impl<'a> Store<'a> {
     /// The key of what a closure stands for under the bindings: 0 where that is a suspension. It takes no
     /// memory.
+    #[inline(always)]
     pub fn head_key(&self, c: &Closure<'a>) -> u64
         ensures { result ≡ head_key (meaning_in self.now c.now) }
     {

@@ -1,7 +1,7 @@
 //! What is kept beside bound variables: the number of another variable that stands for a term with the same
 //! variables. Of numbers behind the last place nothing is kept, so that a search which needs none has no places.
 
-ghost use Rattle.std.specs.Prelude.{◌≡◌, ◌⊎◌, ℕ, ◌<◌, ◌==◌, false, OnOk, length};
+ghost use Rattle.std.specs.Prelude.{◌≡◌, ◌⊎◌, ℕ, ◌<◌, ◌≤◌, ◌==◌, false, OnOk, length};
 ghost use Rattle.ap_store.specs.Likes.{like_in};
 
 use ap_defs::memory::Memory;
@@ -21,8 +21,6 @@ fn is_nothing(like: Like) -> bool {
 }
 
 /// Makes room for what is kept beside a number, where nothing is kept beside it or higher ones so far.
-#[cold]
-#[inline(never)]
 fn make_place(likes: &mut Vec<Like>, place: usize) -> Result<(), Memory>
     ensures likes { (i : ℕ) → like_in likes.new.items i ≡ like_in likes.old.items i }
     ensures place { OnOk result (place < length likes.new.items) }
@@ -31,6 +29,21 @@ fn make_place(likes: &mut Vec<Like>, place: usize) -> Result<(), Memory>
         likes.push(Like::Nothing)?;
     }
     Ok(())
+}
+
+/// Keeps another number beside one behind the last place, or nothing where memory is wanting.
+#[cold]
+#[inline(never)]
+fn keep_further(likes: &mut Vec<Like>, place: usize, like: Like)
+    requires { length likes.old.items ≤ place }
+    ensures others { (i : ℕ) → (i == place) ≡ false →
+        like_in likes.new.items i ≡ like_in likes.old.items i }
+    ensures here { (like_in likes.new.items place ≡ like)
+        ⊎ (like_in likes.new.items place ≡ Like.Nothing) }
+{
+    if make_place(likes, place).is_ok() {
+        likes[place] = like;
+    }
 }
 
 /// Keeps another number beside one, or nothing. Behind the last place so far it may be that nothing is kept: where memory
@@ -49,9 +62,7 @@ pub fn keep_like(likes: &mut Vec<Like>, place: usize, like: Like)
     if is_nothing(like) {
         return;
     }
-    if make_place(likes, place).is_ok() {
-        likes[place] = like;
-    }
+    keep_further(likes, place, like);
 }
 
 /// What is kept beside a number. It takes no memory.

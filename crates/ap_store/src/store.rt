@@ -180,10 +180,13 @@ impl<'a> Store<'a> {
         if base > u32::MAX as u64 {
             return Err(Memory);
         }
-        self.make_room()?;
         let value = plain_value(base as u32, term, found.is_ground());
-        self.note_binding(x, value, end, found.like());
-        Ok(())
+        let like = found.like();
+        if self.is_ready(x) {
+            self.note_binding(x, value, end, like);
+            return Ok(());
+        }
+        self.note_with_room(x, value, end, like)
     }
 
     /// Adds conditions on unbound variables. After want of memory the store is as before.
@@ -313,10 +316,42 @@ impl<'a> Store<'a> {
         ensures versions { versions self.new ≡ versions self.old ++ present self.new ∷ [] }
         ensures kinds { kinds self.new ≡ kinds self.old }
     {
-        self.reach = self.reach.max(end);
         put_value(&mut self.table, x.num as usize, value);
-        keep_like(&mut self.likes, x.num as usize, like);
+        self.reach = self.reach.max(end);
         self.trail.push_reserved(Entry::Bound(x.num as u32));
+        keep_like(&mut self.likes, x.num as usize, like);
+    }
+
+    /// As `note_binding`, once there is room. After want of memory the store is as before.
+    #[cold]
+    #[inline(never)]
+    fn note_with_room(
+        &mut self,
+        x: Var,
+        value: Value<'a>,
+        end: u64,
+        like: Like,
+    ) -> Result<(), Memory>
+        requires made { x.num < (present self.old).next }
+        requires unbound { IsUnbound (bindings_of self.old) x }
+        requires bound { value_term value ≡ Some (kept_term value) }
+        requires term { IsBelow (present self.old).next (kept_term value) }
+        requires within { IsKeptBelow end value }
+        requires absent { occurs x (under (bindings_of self.old) (kept_term value)) ≡ false }
+        requires mark { is_ground_value value ≡ true →
+            HasNoVars (under (bindings_of self.old) (kept_term value)) }
+        requires like { IsAlike like (bindings_of self.old) (kept_term value) }
+        requires apart { has_on x (present self.old).conditions ≡ false }
+        ensures present { OnOk result (present self.new
+            ≡ with_bound x (under (bindings_of self.old) (kept_term value.entry)) (present self.old)) }
+        ensures versions { OnOk result (versions self.new
+            ≡ versions self.old ++ present self.new ∷ []) }
+        ensures kinds { kinds self.new ≡ kinds self.old }
+        ensures unchanged { OnErr result (IsUnchanged self.old self.new) }
+    {
+        self.make_room()?;
+        self.note_binding(x, value, end, like);
+        Ok(())
     }
 
     /// Notes that the conditions on a variable are taken out.

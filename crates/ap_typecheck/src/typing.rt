@@ -2,7 +2,7 @@
 ghost use Rattle.std.specs.Prelude.{◌≡◌, IfOk, IfErr, map};
 ghost use Rattle.std.specs.Option.{option_map};
 ghost use Rattle.ap_defs.specs.RawTerms.{raw_of};
-ghost use Rattle.ap_defs.specs.Types.{signature_of, kind_of};
+ghost use Rattle.ap_defs.specs.Types.{kind_of};
 ghost use Rattle.ap_defs.specs.Goals.{clause_over, query_over};
 ghost use Rattle.ap_trees.specs.Trees.{goal_of_tree, trees_of};
 ghost use Rattle.ap_types.specs.Tables.{AreInhabitants};
@@ -23,7 +23,7 @@ use ap_defs::terms::Raw;
 use ap_kinds::{goal_with_sorts, kinds_of_clause, kinds_of_query, terms_with_sorts};
 use ap_scopes::declarations::Declarations;
 use ap_scopes::goals::predicate_number;
-use ap_scopes::identifiers::{Brought, Identifier, Identifiers};
+use ap_scopes::identifiers::{Identifier, Identifiers};
 use ap_scopes::owned::{own_body, own_goal, own_terms};
 use ap_trees::{GoalTree, Tree};
 use ap_types::inhabitants::Inhabitants;
@@ -58,7 +58,7 @@ fn clause_parts<'a>(
         (option_map goal_of_tree body.entry)) }
 {
     let mut found = Identifiers::new(alloc);
-    let args = own_terms(alloc, declared, &Brought::Nothing, args, &mut found)?;
+    let args = own_terms(alloc, declared, args, &mut found)?;
     let body = own_body(alloc, declared, body, &mut found)?;
     Ok(ClauseParts {
         args,
@@ -78,7 +78,7 @@ fn query_parts<'a>(
         ≡ resolved_query (declared_of declared.now) (goal_of_tree goal.entry)) }
 {
     let mut found = Identifiers::new(alloc);
-    let goal = own_goal(alloc, declared, &Brought::Nothing, goal, &mut found)?;
+    let goal = own_goal(alloc, declared, goal, &mut found)?;
     Ok(QueryParts {
         goal,
         found: found.into_found(),

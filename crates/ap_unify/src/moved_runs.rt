@@ -128,7 +128,16 @@ fn other_moved<'a>(
     }
 }
 
-/// One step for the equation in front, by which the swappings may change. It is replaced in the place.
+/// Whether both parts are abstractions. It takes no memory.
+fn are_abstractions(pair: PlainPair<'_>) -> bool {
+    match (pair.left.term, pair.right.term) {
+        (Term::Abs(_, _, _), Term::Abs(_, _, _)) => true,
+        _ => false,
+    }
+}
+
+/// One step for the equation in front, by which the swappings may change. It is replaced in the place. Two abstractions
+/// behind which nothing waits go another way at once, so that their binders are looked up once.
 fn next_moved<'a>(
     alloc: Global,
     store: &mut Store<'a>,
@@ -152,6 +161,11 @@ fn next_moved<'a>(
     ensures past { IsPrefixOf (versions store.old) (versions store.new) }
     ensures kinds { kinds store.new ≡ kinds store.old }
 {
+    if let None = front.waiting {
+        if are_abstractions(front.ahead.next) {
+            return other_moved(alloc, store, work, sides, front);
+        }
+    }
     match step_moved(alloc, store, work, sides, &mut front.ahead)? {
         Turn::Clash => Ok(Way::End(false)),
         Turn::Done => Ok(after_done(front)),

@@ -195,9 +195,6 @@ pub(crate) fn forms(ahead: &mut Ahead<'_>) -> Turn
 {
     let pair = ahead.next;
     let PlainPair { left, right } = pair;
-    if head_key(left.term) != head_key(right.term) {
-        return Turn::Clash;
-    }
     match (left.term, right.term) {
         (Term::Unit, Term::Unit) => Turn::Done,
         (Term::Name(a), Term::Name(b)) => {
@@ -236,7 +233,13 @@ pub(crate) fn forms(ahead: &mut Ahead<'_>) -> Turn
                 Turn::Other
             }
         }
-        _ => Turn::Other,
+        _ => {
+            if head_key(left.term) == head_key(right.term) {
+                Turn::Other
+            } else {
+                Turn::Clash
+            }
+        }
     }
 }
 

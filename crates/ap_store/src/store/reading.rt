@@ -4,7 +4,7 @@ use super::Store;
 use crate::bare::Bare;
 use crate::held::{held_of, set_of};
 use crate::likes::{Like, like_of};
-use crate::slots::Found;
+use crate::slots::{Found, Value};
 use crate::tables::{bound_at, found_at};
 use ap_defs::goals::Kind;
 use ap_defs::memory::Memory;
@@ -13,7 +13,7 @@ use ap_perm::closures::{Closure, Lent};
 use std::alloc::Global;
 
 impl<'a> Store<'a> {
-    ghost use Rattle.std.specs.Prelude.{◌≡◌, ◌<◌, [], false, true, Some, None, IfOk, MatchOption, is_some, slice_get};
+    ghost use Rattle.std.specs.Prelude.{◌≡◌, ◌<◌, [], false, true, Some, None, IfOk, MatchOption, is_some, slice_get, vec_len, vec_capacity};
     ghost use Rattle.ap_defs.specs.Substitution.{occurs, under};
     ghost use Rattle.ap_defs.specs.Terms.{susp};
     ghost use Rattle.ap_defs.specs.Types.{kind_of};
@@ -88,6 +88,16 @@ impl<'a> Store<'a> {
         ensures { result ≡ has_on x (present self.now).conditions }
     {
         !held_of(&self.held, x.num as usize).is_empty()
+    }
+
+    /// Whether there is room for one more change, and nothing to let go at the number of a variable.
+    #[inline(always)]
+    pub(super) fn is_ready(&self, x: Var) -> bool
+        requires { x.num < (present self.now).next }
+        ensures { result ≡ true → vec_len self.now.trail < vec_capacity self.now.trail }
+    {
+        self.trail.len() < self.trail.capacity()
+            && matches!(self.table[x.num as usize].value, Value::Unbound)
     }
 
     /// Whether the variable is so new that neither the closure nor any bound one can have it.

@@ -1,14 +1,11 @@
-use Rattle.std.proofs.Common.{◌≡◌, ◌++◌, ◌∙◌, [], false, ap, refl, subst, sym}
+use Rattle.std.proofs.Common.{◌≡◌, ◌++◌, ◌∙◌, [], false, ap, refl, sym}
 use Rattle.std.proofs.lemmas.List.{append-nil}
 use Rattle.std.specs.Prelude.{Err, Ok, OnOk, Result, filter}
-use Rattle.ap_defs.specs.Renaming.{IsBelow}
-use Rattle.ap_defs.specs.Substitution.{occurs, under}
-use Rattle.ap_defs.specs.Terms.{NominalTerm}
+use Rattle.ap_defs.specs.Substitution.{under}
 use Rattle.ap_store.proofs.AscendingLemmas.{on_none}
 use Rattle.ap_store.specs.Changes.{has_on}
-use Rattle.ap_store.specs.Marks.{HasNoVars}
-use Rattle.ap_store.specs.Triples.{Triple, is_on, with_binding}
-use Rattle.ap_store.specs.Views.{bindings_of, present}
+use Rattle.ap_store.specs.Triples.{Triple, is_on}
+use Rattle.ap_store.specs.Views.{present}
 use Rattle.ap_rules.proofs.WorkLemmas.{go_bound}
 use Rattle.ap_equations.proofs.work.bind_plain.Goals as goal
 use Rattle.ap_equations.specs.Plain.{plain_term}
@@ -16,20 +13,6 @@ use Rattle.ap_equations.specs.Plain.{plain_term}
 on_ok : {T E : Type 0} (r : Result T E) {P Q : Type 0} → (P → Q) → OnOk r P → OnOk r Q
 on_ok (Ok x) f h = f h
 on_ok (Err e) f h = h
-
-pub bind_var-requires-clause-below : goal.bind_var-requires-clause-below
-bind_var-requires-clause-below c = subst (IsBelow (present c.args.store.now).next) (sym c.closure.ensures) c.requires.below
-
-pub bind_var-requires-clause-absent : goal.bind_var-requires-clause-absent
-bind_var-requires-clause-absent c = ap (λ (t : NominalTerm). occurs c.args.x (under (bindings_of c.args.store.now) t)) c.closure.ensures ∙ c.requires.absent
-
-pub bind_var-requires-clause-no_vars : goal.bind_var-requires-clause-no_vars
-bind_var-requires-clause-no_vars c = λ h. subst (λ (t : NominalTerm). HasNoVars (under (bindings_of c.args.store.now) t)) (sym c.closure.ensures) (c.requires.no_vars (c.is_ground.ensures.0 h))
-
-pub returns-then-has_conditions-clause-bindings : goal.returns-then-has_conditions-clause-bindings
-returns-then-has_conditions-clause-bindings c =
-    let a = present c.args.store.now in
-    subst (λ (t : NominalTerm). OnOk c.bind_var.result (bindings_of c.bind_var.new.store ≡ (with_binding c.args.x (under a.bindings t) a).bindings)) c.closure.ensures c.bind_var.ensures.bindings
 
 pub bind_free-requires-clause-apart : goal.bind_free-requires-clause-apart
 bind_free-requires-clause-apart c = sym c.has_conditions.ensures ∙ c.if-has_conditions.false

@@ -1,15 +1,15 @@
 -- What is left, within the layers, is all.
-use Rattle.std.proofs.Common.{◌≡◌}
+use Rattle.std.proofs.Common.{◌≡◌, []}
 use Rattle.ap_spines.specs.Spines.{raw_within}
 use Rattle.ap_trees.specs.Trees.{term_of}
 use Rattle.ap_scopes.specs.Resolution.{made, resolved_term}
-use Rattle.ap_scopes.specs.Views.{IsNumbered, declared_of, scope_of, found_of}
+use Rattle.ap_scopes.specs.Views.{IsNumbered, declared_of, found_of}
 use Rattle.ap_scopes.proofs.TreeSizes.{term_size}
 use Rattle.ap_scopes.proofs.owned.own_term.Given as goal
 
 abbrev pub invariant-resolving : goal.invariant-resolving
 invariant-resolving l = record {
-  all : made (raw_within l.layers.items) (resolved_term (declared_of l.declared) (scope_of l.scope) (term_of l.rest) (found_of l.found)) ≡ resolved_term (declared_of l.fn.declared) (scope_of l.fn.scope) (term_of l.fn.tree) (found_of l.fn.found);
+  all : made (raw_within l.layers.items) (resolved_term (declared_of l.declared) [] (term_of l.rest) (found_of l.found)) ≡ resolved_term (declared_of l.fn.declared) [] (term_of l.fn.tree) (found_of l.fn.found);
   numbered : IsNumbered l.found;
 }
 

@@ -19,19 +19,5 @@ returns-then-is_nothing-clause-here c =
     let l : length c.args.likes.now.items ≤ c.args.place = omega (arith, c.len.ensures, c.if-place-len.false) in
     inr (like_in_beyond c.args.likes.now.items c.args.place l)
 
-pub returns-then-is_ok-clause-others : goal.returns-then-is_ok-clause-others
-returns-then-is_ok-clause-others c = λ i h. like_in_apart c.make_place.new.likes.items c.args.place i c.args.like h ∙ c.make_place.ensures.likes i
-
-pub returns-then-is_ok-clause-room : goal.returns-then-is_ok-clause-room
-returns-then-is_ok-clause-room c = λ h. absurd (omega (arith, h, c.len.ensures, c.if-place-len.false))
-
-pub returns-then-is_ok-clause-here : goal.returns-then-is_ok-clause-here
-returns-then-is_ok-clause-here c = like_in_here c.make_place.new.likes.items c.args.place c.args.like
-
-pub returns-else-is_ok-clause-room : goal.returns-else-is_ok-clause-room
-returns-else-is_ok-clause-room c = λ h. absurd (omega (arith, h, c.len.ensures, c.if-place-len.false))
-
-pub returns-else-is_ok-clause-here : goal.returns-else-is_ok-clause-here
-returns-else-is_ok-clause-here c =
-    let l : length c.args.likes.now.items ≤ c.args.place = omega (arith, c.len.ensures, c.if-place-len.false) in
-    inr (c.make_place.ensures.likes c.args.place ∙ like_in_beyond c.args.likes.now.items c.args.place l)
+pub returns-clause-room : goal.returns-clause-room
+returns-clause-room c = λ h. absurd (omega (arith, h, c.len.ensures, c.if-place-len.false))
