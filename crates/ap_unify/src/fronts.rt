@@ -27,6 +27,7 @@ pub enum Way {
 }
 
 /// The way on once nothing is left of the equation in front: the one that waits, or those that are left.
+#[inline(always)]
 pub fn after_done(front: &mut Front<'_>) -> Way
     ensures way { (q : PairReading) → (s : List Binding) → (w : Work) →
         progress_to q result s front.new w ≡ next (stage_under s

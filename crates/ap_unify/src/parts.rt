@@ -237,6 +237,7 @@ pub(crate) fn forms(ahead: &mut Ahead<'_>) -> Turn
 }
 
 /// The rule for the two parts that come next, with these heads, once bindings there are followed.
+#[inline(always)]
 fn by_heads<'a>(
     alloc: Global,
     store: &mut Store<'a>,
@@ -275,6 +276,7 @@ fn by_heads<'a>(
 
 /// The rule for the two parts that come next, if there is one without swappings. What comes after it is
 /// put in their place.
+#[inline(always)]
 pub fn step_parts<'a>(
     alloc: Global,
     store: &mut Store<'a>,

@@ -66,6 +66,7 @@ fn by_closures<'a>(
 }
 
 /// One step for the equation in front, or several by closures. It is replaced in the place.
+#[inline(always)]
 pub fn next_way<'a>(
     alloc: Global,
     store: &mut Store<'a>,
