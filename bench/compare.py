@@ -13,7 +13,10 @@ import subprocess
 import sys
 import tempfile
 
-SPEED_TEXT = os.path.join(os.path.dirname(os.path.abspath(__file__)), "speed_text.py")
+BENCH = os.path.dirname(os.path.abspath(__file__))
+SPEED_TEXT = os.path.join(BENCH, "speed_text.py")
+# What runs today's program as `./alphaprolog` does: the earlier one knew nothing of it.
+AS_THE_COMMAND = ["sh", "-c", '. "$0"; exec "$@"', os.path.join(BENCH, "..", "tools", "memory.sh")]
 WORKLOADS = ["reverse", "substitute", "types", "deep40", "deep80", "queens", "subsets", "towers", "capture"]
 OTHERS = {"pl": ["swipl", "-q", "-g", "main", "-t", "halt"], "elpi": ["elpi", "-test", "-no-tc"]}
 
@@ -39,7 +42,8 @@ def written(folder, workload, language):
 def commands(folder, workload, earlier, now):
     """What is run, by its name, each with its input."""
     text = written(folder, workload, "apl")
-    found = {name: ([program, "run", "--depth", "10000"], text) for name, program in (("earlier", earlier), ("now", now))}
+    words = ["run", "--depth", "10000"]
+    found = {"earlier": ([earlier, *words], text), "now": ([*AS_THE_COMMAND, now, *words], text)}
     for language, words in OTHERS.items():
         if shutil.which(words[0]):
             found[words[0]] = [*words, written(folder, workload, language)], os.devnull

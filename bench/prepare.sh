@@ -3,6 +3,7 @@
 set -eu
 
 bench=$(dirname -- "$(readlink -f -- "$0")")
+. "$bench/../tools/memory.sh"
 work=$(mktemp -d)
 trap 'rm -rf "$work"' EXIT
 
