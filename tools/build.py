@@ -21,6 +21,8 @@ PROGRAM = os.environ.get("ALPHAPROLOG_PROGRAM", "ap_cli")
 ROOM = f"{TOP}/.build"
 LOG = f"{ROOM}/log"
 NOT_BUILT = 70
+# What tells that a library stands: built by tools/libraries.py, or by rt.
+STAMPS = "statements", "stamp"
 # The status of tools/libraries.py where the kit is made otherwise than it expects.
 LIBRARIES_BY_RT = 3
 # The memory that one check may take.
@@ -239,7 +241,7 @@ def locked(name, waits):
 
 def build():
     crates, below = crates_below()
-    built = [name for name in crates if os.path.isfile(f"{TOP}/crates/{name}/out/rlib/stamp")]
+    built = [name for name in crates if any(os.path.isfile(f"{TOP}/crates/{name}/out/rlib/{stamp}") for stamp in STAMPS)]
     left, jobs = [name for name in crates if name not in built], jobs_at_once()
     progress = Progress(crates)
     say(
@@ -253,7 +255,8 @@ def build():
     status = run([sys.executable, "-B", f"{TOP}/tools/libraries.py", str(jobs)], progress)
     if status == LIBRARIES_BY_RT:
         status = run(["rt", "all", "check", "--jobs", str(jobs)], progress)
-    if status or run(["rt", "run", "--jobs", str(jobs), "--", *words_of_its_run()], progress):
+        status = status or run(["rt", "run", "--jobs", str(jobs), "--", *words_of_its_run()], progress)
+    if status:
         say(f"{progress.clock()} the program was not built; the log is {LOG}, and ends with")
         say("\n" + last_lines(15))
         fail("what was proved is kept: a second start goes on from there")
