@@ -27,8 +27,8 @@ STAMPS = "statements", "stamp"
 LIBRARIES_BY_RT = 3
 # The memory that one check may take.
 BYTES_A_CHECK = 3 << 30
-# What `loop_seconds` gives on the machine of docs/ARCHITECTURE.md's table, when nothing else is at work.
-LOOP_SECONDS_OF_THE_TABLE = 0.107
+# What `loop_seconds` gives where docs/ARCHITECTURE.md's table holds: its machine, alone, gave 0.048 and took 0.7 of it.
+LOOP_SECONDS_OF_THE_TABLE = 0.068
 
 
 def say(text):
@@ -153,8 +153,8 @@ def being_proved(names):
 class Progress:
     """What was said so far of a build."""
 
-    def __init__(self, crates):
-        self.crates, self.start, self.done, self.working = crates, time.monotonic(), set(), []
+    def __init__(self, crates, built):
+        self.crates, self.built, self.start, self.done, self.working = crates, set(built), time.monotonic(), set(), []
 
     def clock(self):
         seconds = int(time.monotonic() - self.start)
@@ -165,7 +165,7 @@ class Progress:
         ended = [name for name in re.findall(r"(?m)^== (ap_\w+)$", text_of(LOG)) if name not in self.done]
         for name in ended:
             self.done.add(name)
-            say(f"{self.clock()} {len(self.done)} of {len(self.crates)}: {name} done")
+            say(f"{self.clock()} {len(self.done | self.built)} of {len(self.crates)}: {name} done")
         working = being_proved([name for name in self.crates if name not in self.done])
         begun = [name for name in working if name not in self.working]
         if begun:
@@ -243,7 +243,7 @@ def build():
     crates, below = crates_below()
     built = [name for name in crates if any(os.path.isfile(f"{TOP}/crates/{name}/out/rlib/{stamp}") for stamp in STAMPS)]
     left, jobs = [name for name in crates if name not in built], jobs_at_once()
-    progress = Progress(crates)
+    progress = Progress(crates, built)
     say(
         f"the program is proved and built first: {len(crates)} crates, {len(left)} of them not yet, {jobs} side by side; "
         f"about {estimate(left, below, jobs)} minutes. The log is {LOG}"
