@@ -61,4 +61,4 @@ query_turns program d q = turns_from program (first_position d q)
 
 -- a search that takes no more is short
 abbrev pub few_turns : ℕ
-few_turns = 1000
+few_turns = 16384

@@ -42,8 +42,8 @@ pub enum Paths {
     Left,
 }
 
-// A search of so many turns is over sooner than a thread is started.
-const FEW_TURNS: u32 = 1_000;
+// A search of so many turns is over in some milliseconds, sooner than several workers share it out.
+const FEW_TURNS: u32 = 16_384;
 
 /// The machine where the search of a query to a depth begins.
 pub fn first_machine<'a>(

@@ -54,6 +54,10 @@ behind_added (Some cs) ds es h =
     collected_both (Some cs) (Some ds) ∙ ap (λ (fs : Conds). joined_conditions (Some fs) (collected (Some ds))) (sym h.3) ∙ sym (collected_both (Some bs) (Some ds))
     ∙ behind_order bs ds ∙ ap (λ (fs : List Cond). collected (Some fs)) (sym h.1)
 
+-- no condition
+pub nothing_behind : (ds : List Cond) → StandBehind (Some []) ds ds
+nothing_behind ds = ([], sym (append-nil ds), tt, refl)
+
 -- one condition
 pub one_behind : (c : Cond) (ds : List Cond) → StandBehind (Some (c ∷ [])) ds (ds ++ c ∷ [])
 one_behind c ds = (c ∷ [], refl, inl (refl, tt), refl)

@@ -59,7 +59,7 @@ fn at_variable(p: &Pending<'_>, swaps: &[Swap], x: Var) -> Cond
 /// a stack, and is taken from the last to the first. Once more variables were gone through than there are numbers
 /// among them, a name is sought in a variable once only: so a term that has one in many places takes no longer than
 /// one that has it once.
-fn collect<L: Look>(first: Pending<'_>, look: &L, conds: &mut Vec<Cond>) -> Result<(), FreshError>
+fn collect_from<L: Look>(first: Pending<'_>, look: &L, conds: &mut Vec<Cond>) -> Result<(), FreshError>
     ensures behind { OnOk result (StandBehind (by_rules first.entry.name (carried_out
         (L.bound look.now) (L.rank look.now) (pending_term first.entry))) conds.old.items
         conds.new.items) }
@@ -107,6 +107,30 @@ fn collect<L: Look>(first: Pending<'_>, look: &L, conds: &mut Vec<Cond>) -> Resu
         }
     }
     Ok(())
+}
+
+/// The same. Where unit or a name stands below the symbols and the binders of the term, one look tells, and no memory is
+/// taken.
+fn collect<L: Look>(first: Pending<'_>, look: &L, conds: &mut Vec<Cond>) -> Result<(), FreshError>
+    ensures behind { OnOk result (StandBehind (by_rules first.entry.name (carried_out
+        (L.bound look.now) (L.rank look.now) (pending_term first.entry))) conds.old.items
+        conds.new.items) }
+    ensures refuted { IsErrOf result FreshError.Refuted →
+        by_rules first.entry.name (carried_out (L.bound look.now) (L.rank look.now)
+        (pending_term first.entry)) ≡ None }
+{
+    let inner = first.innermost(first.term);
+    match inner.term {
+        Term::Unit => Ok(()),
+        Term::Name(b) => {
+            if numbered(inner.base, *b) == inner.name {
+                Err(FreshError::Refuted)
+            } else {
+                Ok(())
+            }
+        }
+        _ => collect_from(inner, look, conds),
+    }
 }
 
 /// Puts the conditions to which `a # t` reduces under the bindings behind others, from the last to the first; of those

@@ -50,8 +50,8 @@ pub(crate) struct Mark {
     end: u32,
 }
 
-/// A place in a text, or behind the last byte that one may have.
-fn narrowed(place: usize) -> u32 {
+/// A place in a text, or behind the last byte that one may have; also how many of a thing there are in it.
+pub(crate) fn narrowed(place: usize) -> u32 {
     if place < 16_777_216 {
         place as u32
     } else {
@@ -112,6 +112,11 @@ fn class_of(byte: u8) -> Class {
     }
 }
 
+/// Whether a byte is a letter or a digit of ASCII or `_`, as nearly all bytes of words are.
+fn is_plain(byte: u8) -> bool {
+    byte.is_ascii_alphanumeric() || byte == b'_'
+}
+
 /// What a word is.
 fn word_kind(word: &[u8]) -> Kind {
     match word {
@@ -129,7 +134,7 @@ fn word_kind(word: &[u8]) -> Kind {
 fn word_end(bytes: &[u8], start: usize) -> usize {
     let mut end = start;
     for byte in bytes.get(start..).unwrap_or(&[]) {
-        if !matches!(class_of(*byte), Class::Word) {
+        if !is_plain(*byte) && !matches!(class_of(*byte), Class::Word) {
             return end;
         }
         end = end.saturating_add(1);
@@ -196,7 +201,11 @@ impl<'t> Scanner<'t> {
     /// Takes what begins at a place, and gives the place behind it, or none where it is the `.` of the item.
     pub(crate) fn take(&mut self, place: usize) -> Result<Option<usize>, Memory> {
         let next = place.saturating_add(1);
-        match class_of(self.bytes.get(place).copied().unwrap_or(b' ')) {
+        let byte = self.bytes.get(place).copied().unwrap_or(b' ');
+        if is_plain(byte) {
+            return Ok(Some(self.take_word(place)?));
+        }
+        match class_of(byte) {
             Class::Word => return Ok(Some(self.take_word(place)?)),
             Class::Comment => return Ok(Some(line_end(self.bytes, next))),
             Class::Sign(Kind::Dot) => return Ok(None),

@@ -2,8 +2,9 @@
 ghost use Rattle.std.specs.Prelude.{◌≡◌};
 
 use crate::marks::{Kind, Mark, Scanner, kind_at, text_at};
-use crate::parts::{Part, declares, is_clause};
+use crate::parts::{Head, Part, declares, is_clause};
 use crate::places::{Finder, put_arguments};
+use crate::singles::single_variables;
 use ap_defs::memory::Memory;
 use indexmap::IndexSet;
 use std::alloc::Global;
@@ -43,6 +44,8 @@ pub(crate) struct Uses<'t> {
     constructors: IndexSet<&'t str>,
     // in order, once all are known
     arguments: Vec<Argument>,
+    // how the arguments of the heads begin, one clause behind the other
+    head_begins: Vec<usize>,
     // the argument at each place that was noted last
     latest: Vec<Argument>,
     // where the arguments of a call begin
@@ -78,6 +81,7 @@ impl<'t> Uses<'t> {
             called: IndexSet::new(alloc),
             constructors: IndexSet::new(alloc),
             arguments: Vec::new(alloc),
+            head_begins: Vec::new(alloc),
             latest: Vec::new(alloc),
             begins: Vec::new(alloc),
         }
@@ -102,7 +106,7 @@ impl<'t> Uses<'t> {
                 match scanner.take(place)? {
                     Some(behind) => next = behind,
                     None => {
-                        self.add_item(&mut finder, scanner.marks(), start)?;
+                        self.add_item(alloc, &mut finder, scanner.marks(), start)?;
                         scanner.begin_item();
                         start = place.saturating_add(1);
                     }
@@ -115,6 +119,7 @@ impl<'t> Uses<'t> {
     /// Adds the item of these tokens, which begins at a place.
     fn add_item(
         &mut self,
+        alloc: Global,
         finder: &mut Finder,
         marks: &[Mark],
         start: usize,
@@ -122,21 +127,29 @@ impl<'t> Uses<'t> {
         if declares(marks) {
             return Ok(());
         }
-        let is_clause = is_clause(marks);
-        if is_clause {
-            self.heads.insert(text_at(self.text, marks, 0))?;
-        }
+        let head = self.add_head(alloc, marks)?;
         finder.find(marks)?;
         for word in finder.calls() {
             self.add_call(marks, *word)?;
         }
-        let calls = self.calls.len();
-        self.parts.push(Part {
-            start,
-            is_clause,
-            calls,
-        })?;
+        self.parts.push(Part::of(start, self.calls.len(), head))?;
         Ok(())
+    }
+
+    /// Adds the head of the item of these tokens, where it is a clause.
+    fn add_head(&mut self, alloc: Global, marks: &[Mark]) -> Result<Option<Head>, Memory> {
+        if !is_clause(marks) {
+            return Ok(None);
+        }
+        let (predicate, _new) = self.heads.insert_full(text_at(self.text, marks, 0))?;
+        put_arguments(marks, 0, &mut self.begins)?;
+        for rank in 0..self.begins.len() {
+            let begin = self.begin_of(marks, rank)?;
+            self.head_begins.push(begin)?;
+        }
+        let singles = single_variables(alloc, self.text, marks)?;
+        let arguments = self.head_begins.len();
+        Ok(Some(Head::of(predicate, arguments, !singles.is_empty())))
     }
 
     fn add_call(&mut self, marks: &[Mark], word: usize) -> Result<(), Memory> {
@@ -152,23 +165,28 @@ impl<'t> Uses<'t> {
         Ok(())
     }
 
+    /// How the argument of a rank begins of the call or head that is looked at.
+    fn begin_of(&mut self, marks: &[Mark], rank: usize) -> Result<usize, Memory> {
+        let Some(place) = self.begins.get(rank).copied() else {
+            return Ok(ANY);
+        };
+        match begin_at(marks, place) {
+            Begin::Other(begin) => Ok(begin),
+            Begin::Word => {
+                let word = text_at(self.text, marks, place);
+                let (constructor, _new) = self.constructors.insert_full(word)?;
+                Ok(constructor.saturating_add(WORD))
+            }
+        }
+    }
+
     fn add_argument(
         &mut self,
         marks: &[Mark],
         predicate: usize,
         rank: usize,
     ) -> Result<(), Memory> {
-        let Some(place) = self.begins.get(rank).copied() else {
-            return Ok(());
-        };
-        let begin = match begin_at(marks, place) {
-            Begin::Other(begin) => begin,
-            Begin::Word => {
-                let word = text_at(self.text, marks, place);
-                let (constructor, _new) = self.constructors.insert_full(word)?;
-                constructor.saturating_add(WORD)
-            }
-        };
+        let begin = self.begin_of(marks, rank)?;
         self.note((predicate, rank, begin))
     }
 
@@ -205,8 +223,15 @@ impl<'t> Uses<'t> {
         self.arguments.as_slice().binary_search(&argument).is_ok()
     }
 
-    /// Whether a call may have the term at a place of a head as its argument of a rank: one has a term that begins so
-    /// there, or one that may be equal to any.
+    /// Whether a call may have a term that begins so as its argument of a rank: one has a term that begins so there, or
+    /// one that may be equal to any.
+    fn may_meet_begin(&self, predicate: usize, rank: usize, begin: usize) -> bool {
+        begin == ANY
+            || self.has_argument((predicate, rank, ANY))
+            || self.has_argument((predicate, rank, begin))
+    }
+
+    /// Whether a call may have the term at a place of a head as its argument of a rank.
     pub(crate) fn may_meet(
         &self,
         marks: &[Mark],
@@ -224,8 +249,31 @@ impl<'t> Uses<'t> {
                 None => usize::MAX,
             },
         };
-        begin == ANY
-            || self.has_argument((predicate, rank, ANY))
-            || self.has_argument((predicate, rank, begin))
+        self.may_meet_begin(predicate, rank, begin)
+    }
+
+    /// Whether no call of a head's predicate, though there are some, has arguments that begin as the head's do.
+    fn is_unmet(&self, head: Head, first: usize) -> bool {
+        let Some(word) = self.heads.as_slice().get(head.predicate()) else {
+            return false;
+        };
+        let Some(predicate) = self.called_place(*word) else {
+            return false;
+        };
+        let begins = self.head_begins.get(first..head.arguments()).unwrap_or(&[]);
+        for (rank, begin) in begins.iter().enumerate() {
+            if !self.may_meet_begin(predicate, rank, *begin) {
+                return true;
+            }
+        }
+        false
+    }
+
+    /// Whether there are warnings about the head or the variables of a part; the heads before it have so many arguments.
+    pub(crate) fn is_doubtful(&self, part: &Part, first: usize) -> bool {
+        match part.head {
+            Some(head) => head.has_single || self.is_unmet(head, first),
+            None => false,
+        }
     }
 }

@@ -206,17 +206,21 @@ impl<'t> Warner<'t> {
         Ok(())
     }
 
-    /// Looks at all clauses and queries, in order. The tokens are found again of those alone that may have a warning.
+    /// Looks at all clauses and queries, in order. The tokens are found again of those alone that have a warning.
     fn look_at_parts(&mut self, alloc: Global, uses: &Uses<'_>) -> Result<(), Memory> {
         let mut scanner = Scanner::of(alloc, self.text);
         let mut first = 0;
+        let mut arguments = 0;
         for part in &uses.parts {
-            let calls = uses.calls.get(first..part.calls).unwrap_or(&[]);
-            if part.is_clause || self.has_untold(calls) {
-                scanner.find(part.start)?;
-                self.look_at_part(alloc, uses, scanner.marks(), part.is_clause, calls)?;
+            let calls = uses.calls.get(first..part.calls()).unwrap_or(&[]);
+            if uses.is_doubtful(part, arguments) || self.has_untold(calls) {
+                scanner.find(part.start())?;
+                self.look_at_part(alloc, uses, scanner.marks(), part.head.is_some(), calls)?;
             }
-            first = part.calls;
+            first = part.calls();
+            if let Some(head) = part.head {
+                arguments = head.arguments();
+            }
         }
         self.end()
     }

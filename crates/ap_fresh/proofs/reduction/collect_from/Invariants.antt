@@ -6,7 +6,7 @@ use Rattle.ap_fresh.specs.Reduction.{pending_term}
 use Rattle.ap_fresh.specs.Sought.{was_sought}
 use Rattle.ap_fresh.proofs.ListingLemmas.{IsPutting}
 use Rattle.ap_fresh.proofs.PendingLemmas.{visits_left_in}
-use Rattle.ap_fresh.proofs.reduction.collect.Given as goal
+use Rattle.ap_fresh.proofs.reduction.collect_from.Given as goal
 
 abbrev pub invariant-collecting : goal.invariant-collecting
 invariant-collecting g l =
