@@ -1,7 +1,8 @@
-//! Tests of the crates of terms, types and unification, `ap_defs`, `ap_types`, `ap_perm`, `ap_program`, `ap_store` and
-//! `ap_values`, and of `ap_index`; of streams, `ap_io`; of paths, books and workers, `ap_paths`, `ap_book`, `ap_tools` and
-//! `ap_steal`; of trees of queries, `ap_replay`; of texts that are made from a number, `ap_text_commands`; and of
-//! the top call with two workers, `ap_top`. What texts show of other crates stands in the data of `ap_cases`.
+//! Tests of the crates of terms, types and unification, `ap_defs`, `ap_types`, `ap_perm`, `ap_program`, `ap_store`,
+//! `ap_unify` and `ap_values`, and of `ap_index`; of streams, `ap_io`; of paths, books and workers, `ap_paths`, `ap_book`,
+//! `ap_tools` and `ap_steal`; of trees of queries, `ap_replay`; of texts that are made from a number,
+//! `ap_text_commands`; and of the top call with two workers, `ap_top`. What texts show of other crates stands in the
+//! data of `ap_cases`.
 #![tactic(auto)]
 
 #[cfg(test)]
