@@ -59,7 +59,11 @@ fn at_variable(p: &Pending<'_>, swaps: &[Swap], x: Var) -> Cond
 /// a stack, and is taken from the last to the first. Once more variables were gone through than there are numbers
 /// among them, a name is sought in a variable once only: so a term that has one in many places takes no longer than
 /// one that has it once.
-fn collect_from<L: Look>(first: Pending<'_>, look: &L, conds: &mut Vec<Cond>) -> Result<(), FreshError>
+fn collect_from<L: Look>(
+    first: Pending<'_>,
+    look: &L,
+    conds: &mut Vec<Cond>,
+) -> Result<(), FreshError>
     ensures behind { OnOk result (StandBehind (by_rules first.entry.name (carried_out
         (L.bound look.now) (L.rank look.now) (pending_term first.entry))) conds.old.items
         conds.new.items) }
