@@ -1,6 +1,6 @@
 //! The swappings that wait on parts of terms, the same for all parts of a side.
 
-ghost use Rattle.std.specs.Prelude.{◌≡◌, ◌<◌, ◌+◌, ◌++◌, IfOk, OnOk};
+ghost use Rattle.std.specs.Prelude.{◌≡◌, ◌<◌, ◌+◌, ◌++◌, false, IfOk, OnOk};
 ghost use Rattle.ap_defs.specs.Permutations.{act_name, inverse};
 ghost use Rattle.ap_defs.specs.Renaming.{rename_name};
 ghost use Rattle.ap_defs.specs.Terms.{act_term};
