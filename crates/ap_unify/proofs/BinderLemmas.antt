@@ -15,19 +15,17 @@ use Rattle.ap_equations.specs.declared.plain.PlainPair.{PlainPair}
 use Rattle.ap_rules.specs.Runs.{equation_under, problem_under, stage_under}
 use Rattle.ap_rules.specs.Work.{equations_left, pair_equation, problems_met}
 use Rattle.ap_rules.specs.declared.pairs.Work.{Work}
-use Rattle.ap_theory.proofs.PermutationLemmas.{inverse-append}
 use Rattle.ap_theory.proofs.SubstitutionLemmas.{under_act}
 use Rattle.ap_theory.proofs.TermLemmas.{act_term-append}
 use Rattle.ap_unify.proofs.AlikeLemmas.{moved_back_alike}
-use Rattle.ap_unify.proofs.MovedLemmas.{inverse_twice}
 use Rattle.ap_unify.proofs.ReachLemmas.{leads_about, leads_now}
-use Rattle.ap_unify.specs.Moved.{binders_equation, moved_equation}
+use Rattle.ap_unify.specs.Moved.{binders_equation, moved_equation, waiting}
 use Rattle.ap_unify.specs.Parts.{AreBelowBoth, IsEquationBelow, LeadsTo, stage_with}
-use Rattle.ap_unify.specs.declared.moved.Sides.{Sides}
+use Rattle.ap_unify.specs.declared.sides.Sides.{Sides}
 
--- a swapping that acts after others stands behind those of which they are the inverse
-pub put_behind : (p : List Swap) (x : Swap) (t : NominalTerm) → act_term (x ∷ []) (act_term (inverse p) t) ≡ act_term (inverse (p ++ x ∷ [])) t
-put_behind p x t = sym (act_term-append (x ∷ []) (inverse p) t) ∙ ap (λ q. act_term q t) (sym (inverse-append p (x ∷ [])))
+-- a swapping that acts after others stands in front of them
+put_before : (p : List Swap) (x : Swap) (t : NominalTerm) → act_term (x ∷ []) (act_term p t) ≡ act_term (x ∷ p) t
+put_before p x t = sym (act_term-append (x ∷ []) p t)
 
 same_test : (m n : ℕ) → m ≡ n → (m == n) ≡ true
 same_test m n h = grind (arith, nat_tests)
@@ -49,46 +47,45 @@ module _ (s : List Binding) (a b : Name) (t u : NominalTerm) (es : List Equation
       ∙ ap (λ qs. let r : Stage = record { equations = (under s t ≐ under s u) ∷ map (equation_under s) es; problems = qs; bindings = s } in next r) (append-nil (map (problem_under s) ps)))
 
   module _ (differ : name_eq a b ≡ false) where
-    -- the right body is one on which the inverse of swappings waits
-    pub exchanged_binders : (a.sort == b.sort) ≡ true → (p : List Swap) (w : NominalTerm) → u ≡ act_term (inverse p) w
-        → LeadsTo first (next (stage_under s ((t ≐ act_term (inverse (p ++ swap_of a b ∷ [])) w) ∷ es) (ps ++ (act_name p a # w) ∷ [])))
+    -- the right body is one on which swappings wait
+    pub exchanged_binders : (a.sort == b.sort) ≡ true → (p : List Swap) (w : NominalTerm) → u ≡ act_term p w
+        → LeadsTo first (next (stage_under s ((t ≐ act_term (swap_of a b ∷ p) w) ∷ es) (ps ++ (act_name (inverse p) a # w) ∷ [])))
     exchanged_binders k p w e =
         let x = swap_of a b in
-        let v = act_term (inverse (p ++ x ∷ [])) w in
+        let v = act_term (x ∷ p) w in
         let qs = map (problem_under s) ps ++ (a # under s u) ∷ [] in
-        let body : under s u ≡ act_term (inverse p) (under s w) = ap (under s) e ∙ under_act s (inverse p) w in
+        let body : under s u ≡ act_term p (under s w) = ap (under s) e ∙ under_act s p w in
         let right : act_term (x ∷ []) (under s u) ≡ under s v =
-        sym (under_act s (x ∷ []) u) ∙ ap (λ z. under s (act_term (x ∷ []) z)) e ∙ ap (under s) (put_behind p x w) in
+        sym (under_act s (x ∷ []) u) ∙ ap (λ z. under s (act_term (x ∷ []) z)) e ∙ ap (under s) (put_before p x w) in
         let by : step first ≡ by_rule exchanging =
         ap (λ z. by_rule (if z then replace ((under s t ≐ under s u) ∷ []) [] else (if a.sort == b.sort then exchanging else clash))) differ
         ∙ ap (λ z. by_rule (if z then exchanging else clash)) k in
-        let same : reduce_all [] qs ≡ reduce_all [] (map (problem_under s) (ps ++ (act_name p a # w) ∷ [])) =
+        let same : reduce_all [] qs ≡ reduce_all [] (map (problem_under s) (ps ++ (act_name (inverse p) a # w) ∷ [])) =
         ap (λ z. reduce_all [] (map (problem_under s) ps ++ (a # z) ∷ [])) body
-        ∙ moved_back_alike (inverse p) a (under s w) (map (problem_under s) ps)
-        ∙ ap (λ q. reduce_all [] (map (problem_under s) ps ++ (act_name q a # under s w) ∷ [])) (inverse_twice p)
-        ∙ ap (reduce_all []) (sym (map-append (problem_under s) ps ((act_name p a # w) ∷ []))) in
-        leads_about first (by_rule exchanging) (next (stage_under s ((t ≐ v) ∷ es) (ps ++ (act_name p a # w) ∷ []))) by
+        ∙ moved_back_alike p a (under s w) (map (problem_under s) ps)
+        ∙ ap (reduce_all []) (sym (map-append (problem_under s) ps ((act_name (inverse p) a # w) ∷ []))) in
+        leads_about first (by_rule exchanging) (next (stage_under s ((t ≐ v) ∷ es) (ps ++ (act_name (inverse p) a # w) ∷ []))) by
         (qs, ap (λ z. let r : Stage = record { equations = (under s t ≐ z) ∷ map (equation_under s) es; problems = qs; bindings = s } in next r) right, same)
 
 -- what the exchange makes of the swappings and of the work that is left
-module _ (m k : Sides) (a b : Name) (p : PlainPair) (left : k.left.items ≡ m.left.items) (right : k.right.items ≡ m.right.items ++ swap_of a b ∷ []) where
-  bodies_after : (act_term (inverse m.left.items) (plain_term p.left) ≐ act_term (inverse (m.right.items ++ swap_of a b ∷ [])) (plain_term p.right)) ≡ moved_equation k p
-  bodies_after = ap₂ (λ q r. act_term (inverse q) (plain_term p.left) ≐ act_term (inverse r) (plain_term p.right)) (sym left) (sym right)
+module _ (m k : Sides) (a b : Name) (p : PlainPair) (left : waiting k.left ≡ waiting m.left) (right : waiting k.right ≡ swap_of a b ∷ waiting m.right) where
+  bodies_after : (act_term (waiting m.left) (plain_term p.left) ≐ act_term (swap_of a b ∷ waiting m.right) (plain_term p.right)) ≡ moved_equation k p
+  bodies_after = ap₂ (λ q r. act_term q (plain_term p.left) ≐ act_term r (plain_term p.right)) (sym left) (sym right)
 
   pub exchanged_below : (n : ℕ) → IsEquationBelow n (binders_equation m a b p) → AreBelowBoth (moved_equation k) n p
   exchanged_below n h =
-      let u = act_term (inverse m.right.items) (plain_term p.right) in
-      let x = act_term (inverse (m.right.items ++ swap_of a b ∷ [])) (plain_term p.right) in
-      subst (IsEquationBelow n) bodies_after (h.0.1, swapped_below n a b u x h.0.0 h.1.0 h.1.1 (sym (put_behind m.right.items (swap_of a b) (plain_term p.right))))
+      let u = act_term (waiting m.right) (plain_term p.right) in
+      let x = act_term (swap_of a b ∷ waiting m.right) (plain_term p.right) in
+      subst (IsEquationBelow n) bodies_after (h.0.1, swapped_below n a b u x h.0.0 h.1.0 h.1.1 (sym (put_before (waiting m.right) (swap_of a b) (plain_term p.right))))
 
-  pub exchanged_stage : (w v : Work) → v.equations.items ≡ w.equations.items → problems_met v ≡ problems_met w ++ (act_name m.right.items a # plain_term p.right) ∷ []
+  pub exchanged_stage : (w v : Work) → v.equations.items ≡ w.equations.items → problems_met v ≡ problems_met w ++ (act_name (inverse (waiting m.right)) a # plain_term p.right) ∷ []
       → name_eq a b ≡ false → a.sort ≡ b.sort → (s : List Binding)
       → LeadsTo (stage_under s (binders_equation m a b p ∷ equations_left w) (problems_met w)) (next (stage_with (moved_equation k) s p v))
   exchanged_stage w v es ps d e s =
       let first = stage_under s (binders_equation m a b p ∷ equations_left w) (problems_met w) in
-      let t = act_term (inverse m.left.items) (plain_term p.left) in
-      let u = act_term (inverse m.right.items) (plain_term p.right) in
-      let h = exchanged_binders s a b t u (equations_left w) (problems_met w) d (same_test a.sort b.sort e) m.right.items (plain_term p.right) refl in
-      let i = ap (λ q. next (stage_under s (q ∷ equations_left w) (problems_met w ++ (act_name m.right.items a # plain_term p.right) ∷ []))) bodies_after in
+      let t = act_term (waiting m.left) (plain_term p.left) in
+      let u = act_term (waiting m.right) (plain_term p.right) in
+      let h = exchanged_binders s a b t u (equations_left w) (problems_met w) d (same_test a.sort b.sort e) (waiting m.right) (plain_term p.right) refl in
+      let i = ap (λ q. next (stage_under s (q ∷ equations_left w) (problems_met w ++ (act_name (inverse (waiting m.right)) a # plain_term p.right) ∷ []))) bodies_after in
       let j = ap₂ (λ fs qs. next (stage_under s (moved_equation k p ∷ map pair_equation (reverse fs)) qs)) (sym es) (sym ps) in
       subst (LeadsTo first) (i ∙ j) h

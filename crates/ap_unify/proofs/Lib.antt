@@ -9,6 +9,7 @@ pub mod ReachLemmas
 pub mod ReducingLemmas
 pub mod ResultLemmas
 pub mod SameLemmas
+pub mod SideLemmas
 pub mod SolutionLemmas
 pub mod WayLemmas
 pub mod WellLemmas

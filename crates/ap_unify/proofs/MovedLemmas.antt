@@ -12,30 +12,25 @@ use Rattle.ap_defs.specs.declared.terms.Term.{Term}
 use Rattle.ap_defs.specs.declared.terms.Term.TheVariants as code
 use Rattle.ap_defs.specs.declared.terms.Var.{Var}
 use Rattle.ap_rules.proofs.SuspensionLemmas.{form_under, head_var_stays, rule_binds_left, rule_binds_right}
-use Rattle.ap_search.proofs.NumberLemmas.{act_below, inverse_below}
+use Rattle.ap_search.proofs.NumberLemmas.{act_below}
 use Rattle.ap_rules.proofs.MoveLemmas.{moved_under}
 use Rattle.ap_store.specs.Heads.{HasForm, IsHeadUnbound}
 use Rattle.ap_store.specs.Marks.{HasNoVars}
-use Rattle.ap_theory.proofs.PermutationLemmas.{inverse-append}
 use Rattle.ap_theory.proofs.SubstitutionLemmas.{under_act}
 use Rattle.ap_theory.proofs.TermLemmas.{occurs_act}
 use Rattle.ap_theory.specs.Variables.{IsUnbound}
 use Rattle.ap_unify.specs.Parts.{HasVariable}
-
-pub inverse_twice : (p : List Swap) → inverse (inverse p) ≡ p
-inverse_twice [] = refl
-inverse_twice (s ∷ p) = inverse-append (inverse p) (s ∷ []) ∙ ap (λ q. s ∷ q) (inverse_twice p)
 
 -- a closure on which swappings act
 module _ (p : List Swap) (t u : NominalTerm) (e : u ≡ act_term p t) where
   pub moved_below : (n : ℕ) → AreSwapsBelow n p → IsBelow n t → IsBelow n u
   moved_below n h k = subst (IsBelow n) (sym e) (act_below n p h t k)
 
-  pub moved_absent : (s : List Binding) (x : Var) → occurs x (under s t) ≡ false → occurs x (under s u) ≡ false
-  moved_absent s x h = ap (occurs x) (moved_under s p t u e) ∙ occurs_act x p (under s t) ∙ h
+  pub moved_occurs : (s : List Binding) (x : Var) → occurs x (under s u) ≡ occurs x (under s t)
+  moved_occurs s x = ap (occurs x) (moved_under s p t u e) ∙ occurs_act x p (under s t)
 
   pub moved_ground : (s : List Binding) → HasNoVars (under s t) → HasNoVars (under s u)
-  moved_ground s h = λ y. moved_absent s y (h y)
+  moved_ground s h = λ y. moved_occurs s y ∙ h y
 
 -- swappings that wait on a suspension, and those of the suspension
 module _ (n : ℕ) where
@@ -64,10 +59,6 @@ module _ (n : ℕ) where
     pub free_swaps_below : AreSwapsBelow n p
     free_swaps_below = front_below p [] there.0
 
-    -- which are the inverse of others
-    pub back_swaps_below : (q : List Swap) → p ≡ inverse q → AreSwapsBelow n q
-    back_swaps_below q k = subst (AreSwapsBelow n) (inverse_twice q) (inverse_below n (inverse q) (subst (AreSwapsBelow n) k free_swaps_below))
-
     pub free_made : x.num < n
     free_made = there.1
 
@@ -93,18 +84,14 @@ module _ (s : List Binding) where
       let f : act_term p t ≡ susp p x = ap (act_term p) e ∙ ap (λ q. susp q x) (append-nil p) in
       head_var_stays s (act_term p t) p x f (subst (IsHeadUnbound s) (sym f) h)
 
-  -- an unbound variable on the left, or on the right, on which the inverse of swappings waits
+  -- an unbound variable on the left, or on the right, on which swappings wait
   pub moved_left : (p : List Swap) (x : Var) (t u : NominalTerm) → (t ≡ susp [] x) × IsUnbound s x → HasForm u
-      → unless_occurs x (under s u) (act_term p (under s u)) ≡ rule (under s (act_term (inverse p) t)) (under s u)
-  moved_left p x t u (e, h) f =
-      ap (λ q. unless_occurs x (under s u) (act_term q (under s u))) (sym (inverse_twice p))
-      ∙ sym (ap (λ v. rule v (under s u)) (free_moved (inverse p) x t e h) ∙ rule_binds_left (inverse p) x (under s u) (form_under s u f))
+      → unless_occurs x (under s u) (act_term (inverse p) (under s u)) ≡ rule (under s (act_term p t)) (under s u)
+  moved_left p x t u (e, h) f = sym (ap (λ v. rule v (under s u)) (free_moved p x t e h) ∙ rule_binds_left p x (under s u) (form_under s u f))
 
   pub moved_right : (p : List Swap) (y : Var) (t u : NominalTerm) → HasForm t → (u ≡ susp [] y) × IsUnbound s y
-      → unless_occurs y (under s t) (act_term p (under s t)) ≡ rule (under s t) (under s (act_term (inverse p) u))
-  moved_right p y t u f (e, h) =
-      ap (λ q. unless_occurs y (under s t) (act_term q (under s t))) (sym (inverse_twice p))
-      ∙ sym (ap (rule (under s t)) (free_moved (inverse p) y u e h) ∙ rule_binds_right (under s t) (inverse p) y (form_under s t f))
+      → unless_occurs y (under s t) (act_term (inverse p) (under s t)) ≡ rule (under s t) (under s (act_term p u))
+  moved_right p y t u f (e, h) = sym (ap (rule (under s t)) (free_moved p y u e h) ∙ rule_binds_right (under s t) p y (form_under s t f))
 
 -- a variable is bound unless it occurs
 pub clash_where_occurs : (x : Var) (t u : NominalTerm) → occurs x t ≡ true → unless_occurs x t u ≡ clash

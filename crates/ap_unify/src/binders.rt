@@ -1,25 +1,26 @@
 //! The step for two abstractions on whose bodies swappings wait: where their binders differ, these are exchanged.
 
 ghost use Rattle.std.specs.Prelude.{◌≡◌, ◌∷◌, ◌++◌, [], ℕ, List, None, IfOk, OnOk};
-ghost use Rattle.ap_defs.specs.Permutations.{act_name, swap_of};
+ghost use Rattle.ap_defs.specs.Permutations.{act_name, inverse, swap_of};
 ghost use Rattle.ap_defs.specs.Substitution.{Binding, ◌#◌};
 ghost use Rattle.ap_equations.specs.Plain.{plain_term};
 ghost use Rattle.ap_rules.specs.Runs.{stage_under};
 ghost use Rattle.ap_rules.specs.Work.{equations_left, problems_met, progress_if};
-ghost use Rattle.ap_unify.specs.Moved.{binders_equation, moved_equation};
+ghost use Rattle.ap_unify.specs.Moved.{binders_equation, moved_equation, waiting};
 ghost use Rattle.ap_unify.specs.Parts.{AreBelowBoth, AreMarksTrue, AreWayMarksTrue, IsEquationBelow, IsWayBelow, LeadsTo, progress_to, stage_with};
 
 use crate::fronts::{Front, Way};
-use crate::moved::Sides;
+use crate::sides::{Sides, origin};
 use ap_defs::memory::Memory;
 use ap_defs::terms::{Name, Swap};
 use ap_equations::plain::{Plain, PlainPair};
-use ap_perm::swappings::{image, is_same};
+use ap_perm::swappings::is_same;
 use ap_rules::pairs::{FreshFor, Work};
 use std::alloc::Global;
 
 /// The binders are exchanged on the right from now on, and the left one is to be fresh for the right body. It is kept
 /// as the name of which the swappings that waited there make it, which is to be fresh for the body without them.
+#[tactic(auto, using(crate::proofs::SideLemmas::added_last))]
 fn exchange<'a>(
     alloc: Global,
     work: &mut Work<'a>,
@@ -28,18 +29,18 @@ fn exchange<'a>(
     b: Name,
     body: Plain<'a>,
 ) -> Result<(), Memory>
-    ensures left { sides.new.left.items ≡ sides.old.left.items }
-    ensures right { OnOk result (sides.new.right.items
-        ≡ sides.old.right.items ++ swap_of a b ∷ []) }
+    ensures left { waiting sides.new.left ≡ waiting sides.old.left }
+    ensures right { OnOk result (waiting sides.new.right
+        ≡ swap_of a b ∷ waiting sides.old.right) }
     ensures problems { OnOk result (problems_met work.new ≡ problems_met work.old
-        ++ (act_name sides.old.right.items a # plain_term body.entry) ∷ []) }
+        ++ (act_name (inverse (waiting sides.old.right)) a # plain_term body.entry) ∷ []) }
     ensures equations { work.new.equations.items ≡ work.old.equations.items }
     ensures taken { work.new.taken.items ≡ work.old.taken.items }
 {
-    let name = image(&sides.right, a);
+    let name = origin(&sides.right, a);
     work.problems
         .push(FreshFor::OfTerm(name, body.closure(alloc)))?;
-    sides.right.push(Swap {
+    sides.right.added.push(Swap {
         sort: a.sort,
         left: a.num,
         right: b.num,

@@ -12,6 +12,7 @@ mod parts;
 mod reducing;
 mod runs;
 mod settled;
+mod sides;
 pub mod terms;
 pub mod unify;
 mod ways;

@@ -1,45 +1,36 @@
 //! The rules for two parts of terms on which swappings wait, the same for all parts of a side.
 
-ghost use Rattle.std.specs.Prelude.{◌≡◌, ◌<◌, ◌+◌, ℕ, List as list, false, true, IfOk, OnOk};
+ghost use Rattle.std.specs.Prelude.{◌≡◌, ◌<◌, ◌+◌, ℕ, List as list, IfOk, OnOk};
 ghost use Rattle.ap_defs.specs.Permutations.{act_name, inverse, name_eq};
 ghost use Rattle.ap_defs.specs.Renaming.{AreSwapsBelow, IsBelow, rename_name};
 ghost use Rattle.ap_defs.specs.Substitution.{Binding, occurs, under};
 ghost use Rattle.ap_defs.specs.Terms.{act_term};
-ghost use Rattle.ap_defs.specs.Unification.{bind, unless_occurs};
+ghost use Rattle.ap_defs.specs.Unification.{unless_occurs};
 ghost use Rattle.ap_defs.specs.declared.terms.Swap.{Swap as swapping};
 ghost use Rattle.ap_equations.specs.Plain.{plain_term};
-ghost use Rattle.ap_perm.specs.Closures.{closure_term};
 ghost use Rattle.ap_rules.specs.Work.{GoOn};
+ghost use Rattle.ap_store.specs.Founds.{does_occur};
 ghost use Rattle.ap_store.specs.Heads.{HasForm};
 ghost use Rattle.ap_store.specs.Marks.{HasNoVars};
 ghost use Rattle.ap_store.specs.Triples.{IsPrefixOf};
-ghost use Rattle.ap_store.specs.Views.{bindings_of, kinds, meaning_in, present, versions};
+ghost use Rattle.ap_store.specs.Views.{bindings_of, kinds, present, versions};
 ghost use Rattle.ap_theory.specs.Variables.{IsUnbound};
-ghost use Rattle.ap_unify.specs.Moved.{moved_equation};
+ghost use Rattle.ap_unify.specs.Moved.{moved_equation, waiting};
 ghost use Rattle.ap_unify.specs.Parts.{AreBelowBoth, AreMarksTrue, AreTurnMarksTrue, IsHead, IsMarkTrue, IsRuleFor, IsTurnBelow, PutsNothing, rule_of};
-ghost use Rattle.ap_unify.specs.declared.moved.Sides.{Sides};
 ghost use Rattle.ap_unify.specs.declared.parts.Ahead.{Ahead};
+ghost use Rattle.ap_unify.specs.declared.sides.Sides.{Sides};
 
 use crate::heads::{Head, PartWithHead, headed};
 use crate::parts::{Ahead, Turn, terms_of};
+use crate::sides::{Side, Sides, moved_back, name_within};
 use ap_defs::memory::Memory;
-use ap_defs::terms::{Name, Swap, Term, Var};
+use ap_defs::terms::{Name, Term, Var};
 use ap_equations::plain::{Plain, PlainPair};
 use ap_equations::work::bind_var;
-use ap_perm::closures::Closure;
-use ap_perm::joining::numbered;
-use ap_perm::swappings::preimage;
 use ap_rules::pairs::Work;
+use ap_store::occurrences::Occurrence;
 use ap_store::store::Store;
 use std::alloc::Global;
-
-/// The swappings that wait on the parts of the left side, and on those of the right side, the first
-/// innermost: one that is to act after the others is put behind them.
-#[derive(Drop)]
-pub struct Sides {
-    pub left: Vec<Swap>,
-    pub right: Vec<Swap>,
-}
 
 /// As `headed`, where a suspension stands at the head; all else stays as it is. It takes no memory.
 fn head_within<'a>(store: &Store<'a>, p: Plain<'a>) -> PartWithHead<'a>
@@ -62,40 +53,14 @@ fn head_within<'a>(store: &Store<'a>, p: Plain<'a>) -> PartWithHead<'a>
     }
 }
 
-/// The closure of a part on which swappings wait, the first innermost.
-#[tactic(auto, using(ap_rules::proofs::MoveLemmas::reverse_inverse))]
-pub fn moved_closure<'a>(alloc: Global, swaps: &[Swap], p: Plain<'a>) -> Result<Closure<'a>, Memory>
-    ensures { IfOk result (λ c. closure_term c
-        ≡ act_term (inverse swaps.now) (plain_term p.entry)) }
-{
-    let mut waiting = swaps.to_vec(alloc)?;
-    waiting.reverse();
-    Ok(Closure {
-        swaps: waiting,
-        base: p.base,
-        end: p.end,
-        term: p.term,
-    })
-}
-
-/// A name of a part on which swappings wait, the first innermost: numbered as the part is, and moved.
-pub fn name_within(swaps: &[Swap], p: Plain<'_>, a: Name) -> Name
-    requires { p.base + a.num < p.end }
-    ensures { result ≡ act_name (inverse swaps.now) (rename_name p.entry.base a) }
-{
-    // `end` fits in a u64, so the sum below it does.
-    let _end = p.end;
-    preimage(swaps, numbered(p.base, a))
-}
-
 /// Whether two names are equal once they are numbered as two parts are, and moved as these are.
 #[tactic(auto, unfolding(ap_defs::specs::Permutations::name_eq))]
 fn same_image(sides: &Sides, left: Plain<'_>, a: Name, right: Plain<'_>, b: Name) -> bool
     requires left { left.base + a.num < left.end }
     requires right { right.base + b.num < right.end }
     ensures { result
-        ≡ name_eq (act_name (inverse sides.now.left.items) (rename_name left.entry.base a))
-        (act_name (inverse sides.now.right.items) (rename_name right.entry.base b)) }
+        ≡ name_eq (act_name (waiting sides.now.left) (rename_name left.entry.base a))
+        (act_name (waiting sides.now.right) (rename_name right.entry.base b)) }
 {
     let a = name_within(&sides.left, left, a);
     let b = name_within(&sides.right, right, b);
@@ -159,58 +124,48 @@ fn moved_forms(sides: &Sides, ahead: &mut Ahead<'_>) -> Turn
     }
 }
 
-/// Binds an unbound variable to a closure in which it does not occur, and on which swappings act, the first
-/// outermost. It is marked where the closure is known to be ground.
-fn bind_moved<'a>(
+/// Whether a variable occurs in a part. One that is known to be ground needs no look.
+fn occurrence<'a>(
     alloc: Global,
-    store: &mut Store<'a>,
-    work: &mut Work<'a>,
-    p: &[Swap],
+    store: &Store<'a>,
     x: Var,
-    c: Closure<'a>,
-    is_ground: bool,
-) -> Result<Turn, Memory>
-    requires made { x.num < (present store.old).next }
-    requires unbound { IsUnbound (bindings_of store.old) x }
-    requires swaps { AreSwapsBelow (present store.old).next p.now }
-    requires below { IsBelow (present store.old).next (closure_term c) }
-    requires absent { occurs x (meaning_in store.old c) ≡ false }
-    requires no_vars { is_ground ≡ true → HasNoVars (meaning_in store.old c) }
-    ensures turn { IfOk result (λ turn. (m : Sides) (f : Ahead) →
-        IsRuleFor (moved_equation m) turn f (bindings_of store.old) (bindings_of store.new)
-        (bind x (act_term p.now (meaning_in store.old c.entry)))) }
-    ensures ahead { IfOk result PutsNothing }
-    ensures equations { work.new.equations.items ≡ work.old.equations.items }
-    ensures problems { work.new.problems.items ≡ work.old.problems.items }
-    ensures goes_on { OnOk result (GoOn (present store.old) work.old (present store.new) work.new) }
-    ensures past { IsPrefixOf (versions store.old) (versions store.new) }
-    ensures kinds { kinds store.new ≡ kinds store.old }
+    p: Plain<'a>,
+) -> Result<Occurrence, Memory>
+    requires mark { IsMarkTrue (bindings_of store.now) p }
+    ensures found { IfOk result (λ o. does_occur o
+        ≡ occurs x (under (bindings_of store.now) (plain_term p.entry))) }
+    ensures no_vars { IfOk result (λ o. o ≡ Occurrence.Ground →
+        HasNoVars (under (bindings_of store.now) (plain_term p.entry))) }
 {
-    let moved = c.moved_by(alloc, p)?;
-    bind_var(alloc, store, work, x, moved.settled(), is_ground)?;
-    Ok(Turn::Done)
+    if p.is_ground {
+        return Ok(Occurrence::Ground);
+    }
+    let c = p.closure(alloc);
+    store.occurs(alloc, x, &c)
 }
 
-/// Binds an unbound variable to a closure on which swappings act, the first outermost, unless it occurs there.
-/// They undo those that wait on the variable. A closure that is known to be ground needs no look.
+/// Binds an unbound variable to a part on which swappings wait, unless it occurs there. Those that wait on the variable
+/// are undone. It is marked where the part is found to be ground.
 fn bind_back<'a>(
     alloc: Global,
     store: &mut Store<'a>,
     work: &mut Work<'a>,
-    p: &[Swap],
+    back: &Side,
     x: Var,
-    c: Closure<'a>,
-    is_ground: bool,
+    side: &Side,
+    p: Plain<'a>,
 ) -> Result<Turn, Memory>
     requires made { x.num < (present store.old).next }
     requires unbound { IsUnbound (bindings_of store.old) x }
-    requires swaps { AreSwapsBelow (present store.old).next p.now }
-    requires below { IsBelow (present store.old).next (closure_term c) }
-    requires no_vars { is_ground ≡ true → HasNoVars (meaning_in store.old c) }
+    requires swaps { AreSwapsBelow (present store.old).next (waiting back.now) }
+    requires below { IsBelow (present store.old).next (act_term (waiting side.now) (plain_term p)) }
+    requires mark { IsMarkTrue (bindings_of store.old) p }
     ensures turn { IfOk result (λ turn. (m : Sides) (f : Ahead) →
         IsRuleFor (moved_equation m) turn f (bindings_of store.old) (bindings_of store.new)
-        (unless_occurs x (meaning_in store.old c.entry)
-        (act_term p.now (meaning_in store.old c.entry)))) }
+        (unless_occurs x
+        (under (bindings_of store.old) (act_term (waiting side.now) (plain_term p.entry)))
+        (act_term (inverse (waiting back.now))
+        (under (bindings_of store.old) (act_term (waiting side.now) (plain_term p.entry)))))) }
     ensures ahead { IfOk result PutsNothing }
     ensures equations { work.new.equations.items ≡ work.old.equations.items }
     ensures problems { work.new.problems.items ≡ work.old.problems.items }
@@ -218,14 +173,13 @@ fn bind_back<'a>(
     ensures past { IsPrefixOf (versions store.old) (versions store.new) }
     ensures kinds { kinds store.new ≡ kinds store.old }
 {
-    if is_ground {
-        return bind_moved(alloc, store, work, p, x, c, true);
-    }
-    let found = store.occurs(alloc, x, &c)?;
+    let found = occurrence(alloc, store, x, p)?;
     if found.occurs() {
         return Ok(Turn::Clash);
     }
-    bind_moved(alloc, store, work, p, x, c, found.is_ground())
+    let c = moved_back(alloc, back, side, p)?;
+    bind_var(alloc, store, work, x, c, found.is_ground())?;
+    Ok(Turn::Done)
 }
 
 /// The rule for the two parts that come next, with these heads, once bindings there are followed.
@@ -258,30 +212,24 @@ fn by_moved_heads<'a>(
 {
     match (left, right) {
         (Head::Form, Head::Form) => Ok(moved_forms(sides, ahead)),
-        (Head::Free(x), Head::Form) => {
-            let c = moved_closure(alloc, &sides.right, ahead.next.right)?;
-            bind_back(
-                alloc,
-                store,
-                work,
-                &sides.left,
-                x,
-                c,
-                ahead.next.right.is_ground,
-            )
-        }
-        (Head::Form, Head::Free(y)) => {
-            let c = moved_closure(alloc, &sides.left, ahead.next.left)?;
-            bind_back(
-                alloc,
-                store,
-                work,
-                &sides.right,
-                y,
-                c,
-                ahead.next.left.is_ground,
-            )
-        }
+        (Head::Free(x), Head::Form) => bind_back(
+            alloc,
+            store,
+            work,
+            &sides.left,
+            x,
+            &sides.right,
+            ahead.next.right,
+        ),
+        (Head::Form, Head::Free(y)) => bind_back(
+            alloc,
+            store,
+            work,
+            &sides.right,
+            y,
+            &sides.left,
+            ahead.next.left,
+        ),
         _ => Ok(Turn::Other),
     }
 }

@@ -1,11 +1,7 @@
 //! How a run goes on from an equation of closures on which swappings wait.
 
-ghost use Rattle.std.specs.Prelude.{◌≡◌, ◌∷◌, ◌++◌, ℕ, None, false, IfOk, OnOk};
-ghost use Rattle.ap_defs.specs.Permutations.{inverse};
-ghost use Rattle.ap_defs.specs.Terms.{act_term};
+ghost use Rattle.std.specs.Prelude.{◌≡◌, ◌∷◌, ◌++◌, ℕ, None, IfOk, OnOk};
 ghost use Rattle.ap_defs.specs.Unification.{step};
-ghost use Rattle.ap_equations.specs.Plain.{plain_term};
-ghost use Rattle.ap_perm.specs.Closures.{closure_term};
 ghost use Rattle.ap_rules.specs.Runs.{stage_under};
 ghost use Rattle.ap_rules.specs.Work.{ArePairsBelow, GoOn, IsPairBelow, equations_left, pair_equation, problems_met, progress_if, work_stage};
 ghost use Rattle.ap_rules.specs.declared.pairs.Work.{Work};
@@ -16,13 +12,13 @@ ghost use Rattle.ap_unify.specs.Parts.{AreBelowBoth, AreMarksTrue, AreWaitingMar
 
 use crate::binders::next_binders;
 use crate::fronts::{Front, Way, after_done};
-use crate::moved::{Sides, moved_closure, name_within, step_moved};
+use crate::moved::step_moved;
 use crate::parts::{Ahead, Turn, terms_of};
+use crate::sides::{Sides, apart, moved_closure, name_within};
 use ap_defs::memory::Memory;
-use ap_defs::terms::{Name, Swap, Term};
-use ap_equations::plain::{Plain, PlainPair};
+use ap_defs::terms::{Name, Term};
+use ap_equations::plain::PlainPair;
 use ap_equations::work::{by_rule, put_equation};
-use ap_perm::closures::Closure;
 use ap_rules::pairs::{ClosurePair, Work};
 use ap_store::store::Store;
 use std::alloc::Global;
@@ -183,27 +179,6 @@ fn next_moved<'a>(
     }
 }
 
-/// A closure, taken apart: the swappings that wait, the first innermost, and the part on which they do.
-fn apart<'a>(c: Closure<'a>) -> (Vec<Swap>, Plain<'a>)
-    ensures term { act_term (inverse result.0.items) (plain_term result.1) ≡ closure_term c.entry }
-    ensures mark { result.1.is_ground ≡ false }
-{
-    let Closure {
-        mut swaps,
-        base,
-        end,
-        term,
-    } = c;
-    swaps.reverse();
-    let part = Plain {
-        base,
-        end,
-        term,
-        is_ground: false,
-    };
-    (swaps, part)
-}
-
 /// Rewrites an equation of two parts on which swappings wait, in front of those that are left, as long as this makes
 /// another one of two parts. It answers false where there is no solution.
 fn along_moved<'a>(
@@ -255,11 +230,11 @@ pub fn along_closures<'a>(
     ensures kinds { kinds store.new ≡ kinds store.old }
 {
     let ClosurePair { left, right } = first;
-    let (left_swaps, left) = apart(left);
-    let (right_swaps, right) = apart(right);
+    let (left_side, left) = apart(alloc, left);
+    let (right_side, right) = apart(alloc, right);
     let sides = Sides {
-        left: left_swaps,
-        right: right_swaps,
+        left: left_side,
+        right: right_side,
     };
     along_moved(alloc, store, work, sides, PlainPair { left, right })
 }

@@ -1,19 +1,13 @@
-use Rattle.ap_unify.specs.Parts.{IsRuleFor}
-use Rattle.std.proofs.Common.{List, ap, ap₂, refl, subst, sym, ◌∙◌}
-use Rattle.ap_defs.specs.Permutations.{inverse}
-use Rattle.ap_defs.specs.Renaming.{AreSwapsBelow, IsBelow}
-use Rattle.ap_defs.specs.Substitution.{under}
-use Rattle.ap_defs.specs.Terms.{NominalTerm, act_term}
-use Rattle.ap_defs.specs.Unification.{unless_occurs}
-use Rattle.ap_defs.specs.declared.terms.Swap.{Swap}
+use Rattle.std.proofs.Common.{subst}
+use Rattle.ap_defs.specs.Terms.{act_term}
 use Rattle.ap_equations.specs.Plain.{plain_term}
-use Rattle.ap_perm.specs.Closures.{closure_term}
 use Rattle.ap_rules.proofs.WorkLemmas.{if_ok}
 use Rattle.ap_store.specs.Views.{bindings_of, present}
-use Rattle.ap_unify.proofs.MovedLemmas.{act_form, back_swaps_below, free_made, moved_ground, moved_left, moved_right}
+use Rattle.ap_unify.proofs.MovedLemmas.{act_form, free_made, free_swaps_below, moved_left, moved_right}
 use Rattle.ap_unify.proofs.PartLemmas.{head_form, head_free, nothing_below, nothing_marked}
 use Rattle.ap_unify.proofs.moved.by_moved_heads.Goals as goal
-use Rattle.ap_unify.specs.Moved.{moved_equation}
+use Rattle.ap_unify.specs.Moved.{moved_equation, waiting}
+use Rattle.ap_unify.specs.Parts.{IsRuleFor}
 
 pub moved_forms-requires-clause-left_form : goal.moved_forms-requires-clause-left_form
 moved_forms-requires-clause-left_form c =
@@ -35,7 +29,7 @@ bind_back-requires-in-Free-Form-clause-made c =
     let s = bindings_of c.args.store.now in
     let l = plain_term c.args.ahead.now.next.left in
     let x = c.in-Free-Form.x in
-    free_made (present c.args.store.now).next (inverse c.args.sides.now.left.items) l x (head_free s l c.args.left x c.requires.left c.in-Free-Form.is-0).0 c.requires.below.0
+    free_made (present c.args.store.now).next (waiting c.args.sides.now.left) l x (head_free s l c.args.left x c.requires.left c.in-Free-Form.is-0).0 c.requires.below.0
 
 pub bind_back-requires-in-Free-Form-clause-unbound : goal.bind_back-requires-in-Free-Form-clause-unbound
 bind_back-requires-in-Free-Form-clause-unbound c =
@@ -46,40 +40,26 @@ bind_back-requires-in-Free-Form-clause-swaps c =
     let s = bindings_of c.args.store.now in
     let l = plain_term c.args.ahead.now.next.left in
     let x = c.in-Free-Form.x in
-    subst (AreSwapsBelow (present c.args.store.now).next) (sym c.deref-in-Free-Form-2.ensures.value)
-    (back_swaps_below (present c.args.store.now).next (inverse c.args.sides.now.left.items) l x (head_free s l c.args.left x c.requires.left c.in-Free-Form.is-0).0 c.requires.below.0
-    c.args.sides.now.left.items refl)
+    free_swaps_below (present c.args.store.now).next (waiting c.args.sides.now.left) l x (head_free s l c.args.left x c.requires.left c.in-Free-Form.is-0).0 c.requires.below.0
 
-pub bind_back-requires-in-Free-Form-clause-below : goal.bind_back-requires-in-Free-Form-clause-below
-bind_back-requires-in-Free-Form-clause-below c =
-    let r = plain_term c.args.ahead.now.next.right in
-    subst (IsBelow (present c.args.store.now).next) (sym (c.in_ok-c-in-Free-Form.ensures ∙ ap (λ q. act_term (inverse q) r) c.deref-in-Free-Form.ensures.value)) c.requires.below.1
-
-pub returns-in_ok-c-in-Free-Form-clause-turn : goal.returns-in_ok-c-in-Free-Form-clause-turn
-returns-in_ok-c-in-Free-Form-clause-turn c =
+pub returns-in-Free-Form-clause-turn : goal.returns-in-Free-Form-clause-turn
+returns-in-Free-Form-clause-turn c =
     let s = bindings_of c.args.store.now in
     let m = c.args.sides.now in
     let l = plain_term c.args.ahead.now.next.left in
     let r = plain_term c.args.ahead.now.next.right in
     let x = c.in-Free-Form.x in
-    let u = act_term (inverse m.right.items) r in
-    let f = act_form (inverse m.right.items) r (head_form s r c.args.right c.requires.right c.in-Free-Form.is-1) in
-    let e = ap₂ (λ (t : NominalTerm) (q : List Swap). unless_occurs x (under s t) (act_term q (under s t)))
-    (c.in_ok-c-in-Free-Form.ensures ∙ ap (λ q. act_term (inverse q) r) c.deref-in-Free-Form.ensures.value) c.deref-in-Free-Form-2.ensures.value
-    ∙ moved_left s m.left.items x l u (head_free s l c.args.left x c.requires.left c.in-Free-Form.is-0) f in
+    let f = act_form (waiting m.right) r (head_form s r c.args.right c.requires.right c.in-Free-Form.is-1) in
+    let e = moved_left s (waiting m.left) x l (act_term (waiting m.right) r) (head_free s l c.args.left x c.requires.left c.in-Free-Form.is-0) f in
     if_ok c.bind_back-in-Free-Form.result (λ turn h. subst (IsRuleFor (moved_equation m) turn c.args.ahead.now s (bindings_of c.bind_back-in-Free-Form.new.store)) e (h m c.args.ahead.now)) c.bind_back-in-Free-Form.ensures.turn
 
-pub returns-in_ok-c-in-Free-Form-clause-below : goal.returns-in_ok-c-in-Free-Form-clause-below
-returns-in_ok-c-in-Free-Form-clause-below c =
+pub returns-in-Free-Form-clause-below : goal.returns-in-Free-Form-clause-below
+returns-in-Free-Form-clause-below c =
     if_ok c.bind_back-in-Free-Form.result (λ turn h. nothing_below (moved_equation c.args.sides.now) (present c.args.store.now).next turn c.args.ahead.now h) c.bind_back-in-Free-Form.ensures.ahead
 
-pub returns-in_ok-c-in-Free-Form-clause-marks : goal.returns-in_ok-c-in-Free-Form-clause-marks
-returns-in_ok-c-in-Free-Form-clause-marks c =
+pub returns-in-Free-Form-clause-marks : goal.returns-in-Free-Form-clause-marks
+returns-in-Free-Form-clause-marks c =
     if_ok c.bind_back-in-Free-Form.result (λ turn h. nothing_marked (bindings_of c.bind_back-in-Free-Form.new.store) turn c.args.ahead.now h) c.bind_back-in-Free-Form.ensures.ahead
-
-pub bind_back-requires-in-Free-Form-clause-no_vars : goal.bind_back-requires-in-Free-Form-clause-no_vars
-bind_back-requires-in-Free-Form-clause-no_vars c = λ g.
-    moved_ground (inverse c.deref-in-Free-Form.result.now) (plain_term c.args.ahead.now.next.right) (closure_term c.in_ok-c-in-Free-Form.c) c.in_ok-c-in-Free-Form.ensures (bindings_of c.args.store.now) (c.requires.marks.1 g)
 
 -- a variable on the right
 pub bind_back-requires-clause-made : goal.bind_back-requires-clause-made
@@ -87,7 +67,7 @@ bind_back-requires-clause-made c =
     let s = bindings_of c.args.store.now in
     let r = plain_term c.args.ahead.now.next.right in
     let y = c.in-Form-Free.y in
-    free_made (present c.args.store.now).next (inverse c.args.sides.now.right.items) r y (head_free s r c.args.right y c.requires.right c.in-Form-Free.is-1).0 c.requires.below.1
+    free_made (present c.args.store.now).next (waiting c.args.sides.now.right) r y (head_free s r c.args.right y c.requires.right c.in-Form-Free.is-1).0 c.requires.below.1
 
 pub bind_back-requires-clause-unbound : goal.bind_back-requires-clause-unbound
 bind_back-requires-clause-unbound c =
@@ -98,36 +78,22 @@ bind_back-requires-clause-swaps c =
     let s = bindings_of c.args.store.now in
     let r = plain_term c.args.ahead.now.next.right in
     let y = c.in-Form-Free.y in
-    subst (AreSwapsBelow (present c.args.store.now).next) (sym c.deref-in-Form-Free.ensures.value)
-    (back_swaps_below (present c.args.store.now).next (inverse c.args.sides.now.right.items) r y (head_free s r c.args.right y c.requires.right c.in-Form-Free.is-1).0 c.requires.below.1
-    c.args.sides.now.right.items refl)
+    free_swaps_below (present c.args.store.now).next (waiting c.args.sides.now.right) r y (head_free s r c.args.right y c.requires.right c.in-Form-Free.is-1).0 c.requires.below.1
 
-pub bind_back-requires-clause-below : goal.bind_back-requires-clause-below
-bind_back-requires-clause-below c =
-    let l = plain_term c.args.ahead.now.next.left in
-    subst (IsBelow (present c.args.store.now).next) (sym (c.in_ok-c-in-Form-Free.ensures ∙ ap (λ q. act_term (inverse q) l) c.deref.ensures.value)) c.requires.below.0
-
-pub returns-in_ok-c-in-Form-Free-clause-turn : goal.returns-in_ok-c-in-Form-Free-clause-turn
-returns-in_ok-c-in-Form-Free-clause-turn c =
+pub returns-in-Form-Free-clause-turn : goal.returns-in-Form-Free-clause-turn
+returns-in-Form-Free-clause-turn c =
     let s = bindings_of c.args.store.now in
     let m = c.args.sides.now in
     let l = plain_term c.args.ahead.now.next.left in
     let r = plain_term c.args.ahead.now.next.right in
     let y = c.in-Form-Free.y in
-    let t = act_term (inverse m.left.items) l in
-    let f = act_form (inverse m.left.items) l (head_form s l c.args.left c.requires.left c.in-Form-Free.is-0) in
-    let e = ap₂ (λ (v : NominalTerm) (q : List Swap). unless_occurs y (under s v) (act_term q (under s v)))
-    (c.in_ok-c-in-Form-Free.ensures ∙ ap (λ q. act_term (inverse q) l) c.deref.ensures.value) c.deref-in-Form-Free.ensures.value
-    ∙ moved_right s m.right.items y t r f (head_free s r c.args.right y c.requires.right c.in-Form-Free.is-1) in
+    let f = act_form (waiting m.left) l (head_form s l c.args.left c.requires.left c.in-Form-Free.is-0) in
+    let e = moved_right s (waiting m.right) y (act_term (waiting m.left) l) r f (head_free s r c.args.right y c.requires.right c.in-Form-Free.is-1) in
     if_ok c.bind_back.result (λ turn h. subst (IsRuleFor (moved_equation m) turn c.args.ahead.now s (bindings_of c.bind_back.new.store)) e (h m c.args.ahead.now)) c.bind_back.ensures.turn
 
-pub returns-in_ok-c-in-Form-Free-clause-below : goal.returns-in_ok-c-in-Form-Free-clause-below
-returns-in_ok-c-in-Form-Free-clause-below c =
+pub returns-in-Form-Free-clause-below : goal.returns-in-Form-Free-clause-below
+returns-in-Form-Free-clause-below c =
     if_ok c.bind_back.result (λ turn h. nothing_below (moved_equation c.args.sides.now) (present c.args.store.now).next turn c.args.ahead.now h) c.bind_back.ensures.ahead
 
-pub returns-in_ok-c-in-Form-Free-clause-marks : goal.returns-in_ok-c-in-Form-Free-clause-marks
-returns-in_ok-c-in-Form-Free-clause-marks c = if_ok c.bind_back.result (λ turn h. nothing_marked (bindings_of c.bind_back.new.store) turn c.args.ahead.now h) c.bind_back.ensures.ahead
-
-pub bind_back-requires-clause-no_vars : goal.bind_back-requires-clause-no_vars
-bind_back-requires-clause-no_vars c = λ g.
-    moved_ground (inverse c.deref.result.now) (plain_term c.args.ahead.now.next.left) (closure_term c.in_ok-c-in-Form-Free.c) c.in_ok-c-in-Form-Free.ensures (bindings_of c.args.store.now) (c.requires.marks.0 g)
+pub returns-in-Form-Free-clause-marks : goal.returns-in-Form-Free-clause-marks
+returns-in-Form-Free-clause-marks c = if_ok c.bind_back.result (λ turn h. nothing_marked (bindings_of c.bind_back.new.store) turn c.args.ahead.now h) c.bind_back.ensures.ahead

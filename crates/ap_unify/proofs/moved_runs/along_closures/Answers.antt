@@ -11,7 +11,7 @@ use Rattle.ap_unify.specs.Parts.{LeadsTo}
 pub along_moved-requires-clause-marks : goal.along_moved-requires-clause-marks
 along_moved-requires-clause-marks c =
     let s = bindings_of c.args.store.now in
-    (unmarked s c.apart-left_swaps.result.1 c.apart-left_swaps.ensures.mark, unmarked s c.apart-right_swaps.result.1 c.apart-right_swaps.ensures.mark)
+    (unmarked s c.apart-left_side.result.1 c.apart-left_side.ensures.mark, unmarked s c.apart-right_side.result.1 c.apart-right_side.ensures.mark)
 
 pub returns-clause-stage : goal.returns-clause-stage
 returns-clause-stage c =
@@ -19,5 +19,5 @@ returns-clause-stage c =
     let w = c.args.work.now in
     let last = work_stage (bindings_of c.along_moved.new.store) c.along_moved.new.work in
     if_ok c.along_moved.result
-    (λ goes_on h. subst (λ (e : Equation). LeadsTo (stage_under s (e ∷ equations_left w) (problems_met w)) (progress_if goes_on last)) (ap₂ ◌≐◌ c.apart-left_swaps.ensures.term c.apart-right_swaps.ensures.term) h)
+    (λ goes_on h. subst (λ (e : Equation). LeadsTo (stage_under s (e ∷ equations_left w) (problems_met w)) (progress_if goes_on last)) (ap₂ ◌≐◌ c.apart-left_side.ensures.term c.apart-right_side.ensures.term) h)
     c.along_moved.ensures.stage

@@ -1,9 +1,7 @@
 use Rattle.std.proofs.Common.{◌≡◌, ◌∷◌, ◌∙◌, ap, ap₂, subst, sym}
-use Rattle.ap_defs.specs.Permutations.{act_name, inverse}
 use Rattle.ap_defs.specs.Renaming.{rename_name, rename_term}
 use Rattle.ap_defs.specs.Substitution.{Equation, ◌≐◌}
 use Rattle.ap_defs.specs.Terms.{abs, act_term, term_of}
-use Rattle.ap_defs.specs.declared.terms.Name.{Name}
 use Rattle.ap_defs.specs.declared.terms.Term.{Term}
 use Rattle.ap_equations.specs.Plain.{plain_term}
 use Rattle.ap_rules.proofs.WorkLemmas.{if_ok}
@@ -13,7 +11,7 @@ use Rattle.ap_store.specs.Views.{bindings_of}
 use Rattle.ap_unify.proofs.PartLemmas.{abs_mark}
 use Rattle.ap_unify.proofs.ReachLemmas.{leads_now}
 use Rattle.ap_unify.proofs.moved_runs.other_moved.Goals as goal
-use Rattle.ap_unify.specs.Moved.{moved_equation}
+use Rattle.ap_unify.specs.Moved.{moved_equation, waiting}
 use Rattle.ap_unify.specs.Parts.{LeadsTo, progress_to, stage_with}
 
 pub returns-in-Abs-Abs-clause-stage : goal.returns-in-Abs-Abs-clause-stage
@@ -26,14 +24,10 @@ returns-in-Abs-Abs-clause-stage c =
     let pair = c.args.front.now.ahead.next in
     let left = λ (v : Term). rename_term pair.left.base (term_of v) in
     let right = λ (v : Term). rename_term pair.right.base (term_of v) in
-    let a : Name = record { sort = i.sort; num = i.num } in
-    let b : Name = record { sort = i.other_sort; num = i.other_num } in
-    let l = ap₂ abs (c.name_within-a.ensures ∙ ap (λ q. act_name (inverse q) (rename_name pair.left.base a)) c.deref.ensures.value)
-    (ap (act_term (inverse m.left.items)) (c.terms_of.ensures.left ∙ ap left c.deref-in-Abs-Abs-2.ensures))
-    ∙ sym (ap (λ v. act_term (inverse m.left.items) (left v)) i.is-0) in
-    let r = ap₂ abs (c.name_within-b.ensures ∙ ap (λ q. act_name (inverse q) (rename_name pair.right.base b)) c.deref-in-Abs-Abs.ensures.value)
-    (ap (act_term (inverse m.right.items)) (c.terms_of.ensures.right ∙ ap right c.deref-in-Abs-Abs-3.ensures))
-    ∙ sym (ap (λ v. act_term (inverse m.right.items) (right v)) i.is-1) in
+    let l = ap₂ abs c.name_within-a.ensures (ap (act_term (waiting m.left)) (c.terms_of.ensures.left ∙ ap left c.deref.ensures))
+    ∙ sym (ap (λ v. act_term (waiting m.left) (left v)) i.is-0) in
+    let r = ap₂ abs c.name_within-b.ensures (ap (act_term (waiting m.right)) (c.terms_of.ensures.right ∙ ap right c.deref-in-Abs-Abs.ensures))
+    ∙ sym (ap (λ v. act_term (waiting m.right) (right v)) i.is-1) in
     if_ok n.result
     (λ way h. subst (λ (e : Equation). LeadsTo (stage_under s (e ∷ equations_left w) (problems_met w)) (progress_to (moved_equation n.new.sides) way s n.new.front n.new.work)) (ap₂ ◌≐◌ l r) (h s))
     n.ensures.stage
@@ -57,7 +51,7 @@ returns-in-Abs-Abs-clause-marks c =
     let f : plain_term pair.right ≡ abs b (right i.u.value) = ap right i.is-1 in
     if_ok c.next_binders.result
     (λ way h. h s (
-      abs_mark s pair.left c.terms_of.result.left c.terms_of.ensures.left_mark c.requires.marks.0 a (left i.t.value) e (c.terms_of.ensures.left ∙ ap left c.deref-in-Abs-Abs-2.ensures),
-      abs_mark s pair.right c.terms_of.result.right c.terms_of.ensures.right_mark c.requires.marks.1 b (right i.u.value) f (c.terms_of.ensures.right ∙ ap right c.deref-in-Abs-Abs-3.ensures),
+      abs_mark s pair.left c.terms_of.result.left c.terms_of.ensures.left_mark c.requires.marks.0 a (left i.t.value) e (c.terms_of.ensures.left ∙ ap left c.deref.ensures),
+      abs_mark s pair.right c.terms_of.result.right c.terms_of.ensures.right_mark c.requires.marks.1 b (right i.u.value) f (c.terms_of.ensures.right ∙ ap right c.deref-in-Abs-Abs.ensures),
     ))
     c.next_binders.ensures.marks
