@@ -171,8 +171,51 @@ fn may_stand_for(nodes: &[Node], x: usize, entry: Node) -> bool
     }
 }
 
+/// Whether a place has this entry, which has no parts.
+fn has_entry(nodes: &[Node], x: usize, entry: Node) -> bool
+    requires { x < length nodes.now }
+    ensures { result ≡ true → shape_at (shapes_of_nodes nodes.now) x ≡ layer_of entry }
+{
+    match nodes[x] {
+        Node::Place(y) => match entry {
+            Node::Place(z) => y == z,
+            _ => false,
+        },
+        Node::Unit => matches!(entry, Node::Unit),
+        Node::Names(sort) => match entry {
+            Node::Names(other) => sort == other,
+            _ => false,
+        },
+        Node::Base(base) => match entry {
+            Node::Base(other) => base == other,
+            _ => false,
+        },
+        _ => false,
+    }
+}
+
+/// Puts an entry into an open place, where it can stand, and answers whether it has it now; a place that has it
+/// already stays as it is.
+fn put(nodes: &mut Vec<Node>, x: usize, entry: Node) -> bool
+    requires formed { AreFormed (shapes_of_nodes nodes.old.items) }
+    requires within { x < length nodes.old.items }
+    requires bound { bound_of (layer_of entry) ≤ length nodes.old.items }
+    ensures filled { result ≡ true → Fills nodes.old.items (hole x ≐ layer_of entry) nodes.new.items }
+    ensures kept { result ≡ false → nodes.new.items ≡ nodes.old.items }
+{
+    let places = nodes.as_slice();
+    if has_entry(places, x, entry) {
+        return true;
+    }
+    if !may_stand_for(places, x, entry) {
+        return false;
+    }
+    nodes[x] = entry;
+    true
+}
+
 /// Puts a shape into the place of a hole, where that is open and the shape has no parts but holes, and answers
-/// whether it did.
+/// whether it did. A place that has that shape already stays as it is.
 fn fill(nodes: &mut Vec<Node>, side: &Shape, t: &Shape) -> bool
     requires formed { AreFormed (shapes_of_nodes nodes.old.items) }
     requires left { bound_of (shape_of side.now) ≤ length nodes.old.items }
@@ -188,11 +231,7 @@ fn fill(nodes: &mut Vec<Node>, side: &Shape, t: &Shape) -> bool
     let Some(entry) = entry_of_holes(t) else {
         return false;
     };
-    if !may_stand_for(nodes.as_slice(), x, entry) {
-        return false;
-    }
-    nodes[x] = entry;
-    true
+    put(nodes, x, entry)
 }
 
 /// Puts one side of an equation into the place of the other, where that is an open hole, and answers whether it
