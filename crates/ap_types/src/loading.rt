@@ -2,7 +2,8 @@
 
 ghost use Rattle.std.specs.Prelude.{◌≡◌, ℕ, ◌+◌, ◌<◌, ◌≤◌, ◌++◌, ◌∷◌, [], List, length, map, true, false, IfOk, IfSome, OnOk};
 ghost use Rattle.ap_defs.specs.Types.{shape_of, hole};
-ghost use Rattle.ap_types.specs.Equations.{◌≐◌, equation_of, bound_of, equations_bound};
+ghost use Rattle.ap_types.specs.Assignments.{name_equation, name_equations};
+ghost use Rattle.ap_types.specs.Equations.{◌≐◌, equation_of, bound_of, equations_bound, names_bound};
 ghost use Rattle.ap_types.specs.Solving.{shape_at};
 ghost use Rattle.ap_types.specs.Triangular.{layer_of, shapes_of_nodes, IsFormed, AreFormed};
 ghost use Rattle.ap_types.specs.Loading.{lent_shapes, taken, place_in, parts_taken, entry_in};
@@ -200,7 +201,8 @@ fn put(nodes: &mut Vec<Node>, x: usize, entry: Node) -> bool
     requires formed { AreFormed (shapes_of_nodes nodes.old.items) }
     requires within { x < length nodes.old.items }
     requires bound { bound_of (layer_of entry) ≤ length nodes.old.items }
-    ensures filled { result ≡ true → Fills nodes.old.items (hole x ≐ layer_of entry) nodes.new.items }
+    ensures filled { result ≡ true →
+        Fills nodes.old.items (hole x ≐ layer_of entry) nodes.new.items }
     ensures kept { result ≡ false → nodes.new.items ≡ nodes.old.items }
 {
     let places = nodes.as_slice();
@@ -310,4 +312,59 @@ pub(crate) fn load_all(
         all = load_equation(alloc, all, &e.0, &e.1)?;
     }
     Ok(all)
+}
+
+/// Puts the equation by which a hole is the one name type into a table.
+fn load_name(alloc: Global, loaded: Loaded, x: u64) -> Result<Loaded, Memory>
+    requires formed { AreFormed (shapes_of_nodes loaded.nodes.items) }
+    requires bound { x < length loaded.nodes.items }
+    requires within { ArePairsWithin (length loaded.nodes.items) loaded.pairs.items }
+    ensures { IfOk result (λ l. LoadsAll (shapes_of_nodes loaded.nodes.items) loaded.pairs.items
+        (name_equation x ∷ []) (shapes_of_nodes l.nodes.items) l.pairs.items) }
+{
+    let Loaded { mut nodes, pairs } = loaded;
+    if put(&mut nodes, x as usize, Node::Names(0)) {
+        return Ok(Loaded { nodes, pairs });
+    }
+    load_sides(
+        alloc,
+        Loaded { nodes, pairs },
+        &Shape::Hole(x),
+        &Shape::Names(0),
+    )
+}
+
+/// Puts the equations by which holes are the one name type into a table.
+fn load_names(alloc: Global, loaded: Loaded, names: &[u64]) -> Result<Loaded, Memory>
+    requires formed { AreFormed (shapes_of_nodes loaded.nodes.items) }
+    requires bound { names_bound names.now ≤ length loaded.nodes.items }
+    requires within { ArePairsWithin (length loaded.nodes.items) loaded.pairs.items }
+    ensures { IfOk result (λ l. LoadsAll (shapes_of_nodes loaded.nodes.items) loaded.pairs.items
+        (map name_equation names.now) (shapes_of_nodes l.nodes.items) l.pairs.items) }
+{
+    let mut all = loaded;
+    for x in names {
+        all = load_name(alloc, all, *x)?;
+    }
+    Ok(all)
+}
+
+/// Puts the equations by which holes are the one name type, where one is declared, into a table.
+#[tactic(auto, using(crate::proofs::LoadLemmas::loads_no_names))]
+pub(crate) fn load_name_equations(
+    alloc: Global,
+    loaded: Loaded,
+    names: &[u64],
+    name_types: u32,
+) -> Result<Loaded, Memory>
+    requires formed { AreFormed (shapes_of_nodes loaded.nodes.items) }
+    requires bound { names_bound names.now ≤ length loaded.nodes.items }
+    requires within { ArePairsWithin (length loaded.nodes.items) loaded.pairs.items }
+    ensures { IfOk result (λ l. LoadsAll (shapes_of_nodes loaded.nodes.items) loaded.pairs.items
+        (name_equations name_types names.now) (shapes_of_nodes l.nodes.items) l.pairs.items) }
+{
+    if name_types == 1 {
+        return load_names(alloc, loaded, names);
+    }
+    Ok(loaded)
 }
