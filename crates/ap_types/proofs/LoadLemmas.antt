@@ -1,6 +1,7 @@
 -- Shapes and equations in tables.
-use Rattle.std.proofs.Common.{◌≡◌, false, ◌<◌, ◌≤◌, ◌+◌, ◌↔◌, ◌∙◌, ℕ, List, [], ◌∷◌, ◌++◌, map, length, drop, get_or, refl, sym, ap, subst, arith}
-use Rattle.std.specs.Prelude.{◌==◌, if◌then◌else◌}
+use Rattle.std.proofs.Common.{◌≡◌, inl, inr, ◌<◌, ◌≤◌, ◌+◌, ◌↔◌, ◌∙◌, ℕ, List, [], ◌∷◌, ◌++◌, map, length, drop, get_or, refl, sym, ap, subst, arith}
+use Rattle.std.specs.Prelude.{if◌then◌else◌}
+use Rattle.std.proofs.lemmas.Bool.Decides.{eqb_tells}
 use Rattle.std.proofs.lemmas.List.{at_drop_more}
 use Rattle.ap_defs.specs.declared.terms.Shape.{Shape}
 use Rattle.ap_defs.specs.Types.{TypeShape, shape_of}
@@ -127,12 +128,15 @@ bound_next es i e n l h k =
     (omega arith, omega arith)
 
 -- the same for the holes that must be name types
-pub name_next : (xs : List ℕ) (i x : ℕ) → i < length xs → x ≡ get_or xs i x → map name_equation (drop i xs) ≡ name_equation x ∷ map name_equation (drop (i + 1) xs)
-name_next xs i x l e = ap (map name_equation) (next_at xs i x l e)
+pub name_next : (xs : List ℕ) (i : ℕ) → i < length xs → map name_equation (drop i xs) ≡ name_equation (get_or xs i 0) ∷ map name_equation (drop (i + 1) xs)
+name_next xs i l = ap (map name_equation) (at_drop_more (λ ys. ys) xs i 0 l)
 
-pub loads_no_names : (n : ℕ) (xs : List ℕ) (ns : List Node) (ps : List (ℕ × ℕ)) → (n == 1) ≡ false → AreFormed (shapes_of_nodes ns) → ArePairsWithin (length ns) ps
+pub loads_no_names : (n : ℕ) (xs : List ℕ) (ns : List Node) (ps : List (ℕ × ℕ)) → (n ≡ 1 → ⊥) → AreFormed (shapes_of_nodes ns) → ArePairsWithin (length ns) ps
     → LoadsAll (shapes_of_nodes ns) ps (name_equations n xs) (shapes_of_nodes ns) ps
-loads_no_names n xs ns ps e h w =
+loads_no_names n xs ns ps other h w =
     let ts = shapes_of_nodes ns in
     let none = loads_none ts ps h (subst (λ m. ArePairsWithin m ps) (sym (length_table ns)) w) in
-    subst (λ b. LoadsAll ts ps (if b then map name_equation xs else []) ts ps) (sym e) none
+    elim (eqb_tells n 1) [
+      | inl e ↦ absurd (other e.1)
+      | inr e ↦ subst (λ b. LoadsAll ts ps (if b then map name_equation xs else []) ts ps) (sym e.0) none
+    ]

@@ -350,7 +350,6 @@ fn load_names(alloc: Global, loaded: Loaded, names: &[u64]) -> Result<Loaded, Me
 }
 
 /// Puts the equations by which holes are the one name type, where one is declared, into a table.
-#[tactic(auto, using(crate::proofs::LoadLemmas::loads_no_names))]
 pub(crate) fn load_name_equations(
     alloc: Global,
     loaded: Loaded,

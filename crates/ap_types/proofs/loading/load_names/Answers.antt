@@ -1,4 +1,4 @@
-use Rattle.std.proofs.Common.{◌≤◌, ◌+◌, ◌∷◌, map, drop, length, subst, sym, ap, arith}
+use Rattle.std.proofs.Common.{◌≤◌, ◌+◌, ◌∷◌, map, drop, get_or, length, subst, sym, ap, arith}
 use Rattle.std.proofs.lemmas.List.{drop_all}
 use Rattle.ap_defs.specs.Types.{hole, names}
 use Rattle.ap_types.specs.Equations.{equations_bound}
@@ -25,8 +25,8 @@ pub load_name-requires-clause-bound : goal.load_name-requires-clause-bound
 load_name-requires-clause-bound c =
     let ns = c.loop-x.all.nodes.items in
     let long = length_table ns in
-    let next = name_next c.args.names.now c.loop-x.x-index c.x-item.result c.loop-x-test.true c.x-item.is in
-    let bound : equations_bound (name_equation c.x-item.result ∷ map name_equation (drop (c.loop-x.x-index + 1) c.args.names.now)) ≤ length (shapes_of_nodes ns) =
+    let next = name_next c.args.names.now c.loop-x.x-index c.loop-x-test.true in
+    let bound : equations_bound (name_equation (get_or c.args.names.now c.loop-x.x-index 0) ∷ map name_equation (drop (c.loop-x.x-index + 1) c.args.names.now)) ≤ length (shapes_of_nodes ns) =
     subst (λ es. equations_bound es ≤ length (shapes_of_nodes ns)) next c.loop-x.invariant.bound in
     omega (arith, bound)
 
@@ -40,8 +40,8 @@ loop-x-preserved c =
     let vs = shapes_of_nodes c.in_ok-all.all.nodes.items in
     let ps = c.args.loaded.pairs.items in
     let all = map name_equation c.args.names.now in
-    let next = subst (LoadsSome ts ps all us c.loop-x.all.pairs.items) (name_next c.args.names.now c.loop-x.x-index c.x-item.result c.loop-x-test.true c.x-item.is) c.loop-x.invariant in
-    loads_more ts ps all us vs c.loop-x.all.pairs.items c.in_ok-all.all.pairs.items (hole c.x-item.result) (names 0) (map name_equation (drop (c.loop-x.x-index + 1) c.args.names.now)) next c.in_ok-all.ensures
+    let next = subst (LoadsSome ts ps all us c.loop-x.all.pairs.items) (name_next c.args.names.now c.loop-x.x-index c.loop-x-test.true) c.loop-x.invariant in
+    loads_more ts ps all us vs c.loop-x.all.pairs.items c.in_ok-all.all.pairs.items (hole (get_or c.args.names.now c.loop-x.x-index 0)) (names 0) (map name_equation (drop (c.loop-x.x-index + 1) c.args.names.now)) next c.in_ok-all.ensures
 
 pub returns : goal.returns
 returns c =
