@@ -76,7 +76,7 @@ fn is_same(t: &Shape, u: &Shape) -> bool
 }
 
 /// Whether the last equation is one of two shapes, which have no parts.
-#[tactic(auto, using(crate::proofs::LastLemmas::ends_in_none, crate::proofs::LastLemmas::ends_in_last))]
+#[tactic(auto, using(crate::proofs::LastLemmas::ends_in_none))]
 fn ends_between(system: &System, t: &Shape, u: &Shape) -> bool
     ensures { result
         ≡ ends_between (shape_of t.now) (shape_of u.now) (system_of system.now).equations }
