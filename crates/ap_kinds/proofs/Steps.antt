@@ -73,8 +73,8 @@ same_already : (n : ℕ) (t u : TypeShape) (s : EquationSystem) (φ : Assign) �
 same_already n t u s φ e h k r = elim (or_cases (is_same t u) (ends_between t u s.equations) e) [
   | inl d ↦ ap (closed φ) (same_shapes t u d)
   | inr d ↦
-    opened_injective (closed φ t) (closed φ u)
-    (sym (closes φ t (h.proper (filling φ) r.1)) ∙ last_solved (filling φ) t u s.equations d r.0 ∙ closes φ u (k.proper (filling φ) r.1))
+      opened_injective (closed φ t) (closed φ u)
+      (sym (closes φ t (h.proper (filling φ) r.1)) ∙ last_solved (filling φ) t u s.equations d r.0 ∙ closes φ u (k.proper (filling φ) r.1))
 ]
 
 gathers_unless : (n : ℕ) (idents : List IdentKind) (t u : TypeShape) (s : EquationSystem) (b : Bool) → (is_same t u || ends_between t u s.equations) ≡ b → IsMade n idents s
