@@ -20,7 +20,7 @@ use Rattle.ap_kinds.proofs.Assignments.{Assign, filling, Agree, names_snoc, snoc
 use Rattle.ap_kinds.proofs.IdentLemmas.{kinds_by, Fits, kinds_same, sort_of_name, own_sort, own_name, var_of_type, type_of_var}
 use Rattle.ap_kinds.proofs.Gathers.{IsMade, grows_on, suits_grows, below_idents, Gathers, gathers_map, gathers_none, gathers_refused, gathers_then, TypedBy, Opens, opens_two}
 use Rattle.ap_kinds.proofs.Steps.{made_hole, grows_hole, made_name, grows_name, hole_filled, hole_shape}
-use Rattle.ap_kinds.proofs.Walking.{Wants, gathers_term}
+use Rattle.ap_kinds.proofs.Walking.{gathers_term}
 
 -- terms with types, by the types of holes
 abbrev pub TermsBy : List NominalConstructor → List IdentKind → List RawTerm → List NominalType → Assign → Type 0

@@ -5,7 +5,7 @@ use Rattle.ap_defs.specs.declared.goals.Kind.{Kind}
 use Rattle.ap_defs.specs.Types.{NominalKind, NominalSignature, NominalConstructor, TypeShape, name, var, kind_of}
 use Rattle.ap_types.specs.declared.inhabitants.Inhabitants.{Inhabitants}
 use Rattle.ap_types.specs.Rounds.{marked}
-use Rattle.ap_types.specs.Inhabited.{inhabited_if, IsInhabited}
+use Rattle.ap_types.specs.Inhabited.{inhabited_if}
 use Rattle.ap_types.specs.Solving.{shape_at}
 use Rattle.ap_types.specs.Tables.{AreInhabitants}
 use Rattle.ap_types.proofs.BooleanLemmas.{and_left, and_right, and_both}
@@ -16,7 +16,7 @@ use Rattle.ap_kinds.specs.declared.kinds.IdentKind.TheVariants as classes
 use Rattle.ap_kinds.specs.declared.read_types.Declared.{Declared}
 use Rattle.ap_kinds.specs.declared.read_types.TypeRead.{TypeRead}
 use Rattle.ap_kinds.specs.Reading.{read_kind, read_kinds, name_count, data_count, AllDeclared, SomeUndeclared, AllClosed, SomeOpen}
-use Rattle.ap_kinds.specs.ReadTypes.{AreFirstRead, IsDeclaredBy, read_at, kind_inhabited_if, are_inhabited_if, marks_of}
+use Rattle.ap_kinds.specs.ReadTypes.{AreFirstRead, IsDeclaredBy, read_at, kind_inhabited_if, are_inhabited_if}
 
 -- they are inhabited where the question by the marks says so
 pub kinds_inhabited : (cs : List NominalConstructor) (i : Inhabitants) → AreInhabitants cs i → (ks : List NominalKind) → (are_inhabited_if (marked i.found.table.items) ks ≡ true) ↔ AreInhabited cs ks

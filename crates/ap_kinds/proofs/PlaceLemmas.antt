@@ -4,7 +4,7 @@ use Rattle.std.specs.Prelude.{◌==◌, IfOk, IfErr, IfSome}
 use Rattle.std.proofs.Math.Seq.{get_or-append_seam}
 use Rattle.std.proofs.lemmas.Bool.Decides.{eqb_tells}
 use Rattle.std.proofs.lemmas.List.{get_or-set_same, get_or-set_other, get_or_append_left, get_or_default, length-append}
-use Rattle.ap_defs.specs.Types.{TypeShape, hole, unit, names, base, pair, list, abs}
+use Rattle.ap_defs.specs.Types.{TypeShape, hole}
 use Rattle.ap_types.specs.declared.nodes.Node.{Node}
 use Rattle.ap_types.specs.declared.nodes.Node.TheVariants as nodes
 use Rattle.ap_types.specs.declared.solved.Solved.{Solved}
@@ -13,7 +13,7 @@ use Rattle.ap_types.specs.Solving.{shape_at}
 use Rattle.ap_types.specs.Triangular.{layer_of, shapes_of_nodes, value_of, assignment_of, IsSettledTable}
 use Rattle.ap_types.specs.Walking.{is_part, IsPart, AreInOrder}
 use Rattle.ap_types.specs.Entries.{IsEntryOf}
-use Rattle.ap_types.proofs.TableLemmas.{at_past, layer_at, length_table}
+use Rattle.ap_types.proofs.TableLemmas.{at_past, layer_at}
 use Rattle.ap_types.proofs.SettledLemmas.{open_value, past_value, length_values, value_at}
 use Rattle.ap_kinds.specs.declared.read_types.Declared.{Declared}
 use Rattle.ap_kinds.specs.declared.read_types.TypeRead.{TypeRead}

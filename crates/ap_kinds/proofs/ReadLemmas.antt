@@ -1,10 +1,9 @@
 -- What is read off a shape, by what is read off its parts.
-use Rattle.std.proofs.Common.{◌≡◌, ◌<◌, ◌+◌, ◌∙◌, ◌↔◌, ℕ, Bool, true, false, ◌&&◌, IsTrue, List, [], ◌∷◌, length, refl, sym, ap}
+use Rattle.std.proofs.Common.{◌≡◌, ◌∙◌, ℕ, Bool, true, ◌&&◌, refl, ap}
 use Rattle.ap_defs.specs.Types.{NominalConstructor, NominalKind, TypeShape, type_of, hole, unit, names, base, pair, list, abs}
 use Rattle.ap_defs.specs.Types as types
-use Rattle.ap_types.specs.Inhabited.{inhabited_if, IsInhabited}
 use Rattle.ap_kinds.specs.declared.read_types.TypeRead.{TypeRead}
-use Rattle.ap_kinds.specs.Reading.{is_declared, is_closed, is_sort, sort_in_shape, read_type}
+use Rattle.ap_kinds.specs.Reading.{is_closed, is_sort, sort_in_shape, read_type}
 use Rattle.ap_kinds.specs.ReadTypes.{IsRead, is_sort_type, sort_in_type}
 
 sort_read : (t : TypeShape) → sort_in_type (read_type t) ≡ sort_in_shape t

@@ -8,7 +8,6 @@ use Rattle.ap_defs.specs.RawTerms as raw
 use Rattle.ap_defs.specs.RawTerms.{RawTerm}
 use Rattle.ap_defs.specs.Types.{NominalKind, kind_of}
 use Rattle.ap_defs.specs.Goals.{GoalOver, succeed, atom, equal, fresh, both, either, exists, new}
-use Rattle.ap_defs.specs.Answers.{kind_at}
 use Rattle.ap_kinds.specs.Sorts.{sort_in, KeepSorts, name_with_sort, id_with_sort, with_sorts, terms_with_sorts, goal_with_sorts}
 
 keep_first : (k : Kind) (ks : List Kind) → ((sort : ℕ) → sort_in (Some (kind_of k)) sort ≡ sort) → KeepSorts (map kind_of ks) → KeepSorts (map kind_of (k ∷ ks))

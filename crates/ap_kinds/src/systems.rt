@@ -9,6 +9,9 @@ use ap_defs::memory::Memory;
 use ap_defs::terms::Shape;
 use std::alloc::Global;
 
+/// How many equations more than identifiers a system has room for at first: most systems are small.
+const MORE_EQUATIONS: usize = 12;
+
 /// Type equations, the holes that must be name types, and the number of the next hole.
 #[derive(Drop)]
 pub(crate) struct System {
@@ -91,7 +94,7 @@ pub(crate) fn started(alloc: Global, idents: &[IdentKind]) -> Result<System, Mem
 {
     let names = name_holes(alloc, idents)?;
     Ok(System {
-        equations: Vec::with_capacity(alloc, idents.len())?,
+        equations: Vec::with_capacity(alloc, idents.len().saturating_add(MORE_EQUATIONS))?,
         names,
         next: idents.len() as u64,
     })

@@ -13,6 +13,7 @@ use crate::declaring::{
     declare_constructor, declare_data_type, declare_name_type, declare_predicate,
 };
 use crate::error::Refusal;
+use crate::spellings::Spellings;
 use crate::state::State;
 use crate::typing::{typed_clause, typed_query};
 use ap_defs::faults::Place;
@@ -40,6 +41,7 @@ fn put_clause(state: &mut State<'_>, clause: Clause<Raw>) -> Result<(), Memory>
 fn add_item<'a>(
     alloc: Global,
     state: &mut State<'a>,
+    spellings: &mut Spellings,
     place: Place,
     form: Form<'a>,
 ) -> Result<(), Refusal>
@@ -64,6 +66,7 @@ fn add_item<'a>(
                 alloc,
                 &state.declared,
                 &state.inhabitants,
+                spellings,
                 place,
                 word,
                 args,
@@ -72,7 +75,14 @@ fn add_item<'a>(
             put_clause(state, clause)?;
         }
         Form::Query(goal) => {
-            let query = typed_query(alloc, &state.declared, &state.inhabitants, place, goal)?;
+            let query = typed_query(
+                alloc,
+                &state.declared,
+                &state.inhabitants,
+                spellings,
+                place,
+                goal,
+            )?;
             state.queries.push(query)?;
         }
     }
@@ -83,6 +93,7 @@ fn add_item<'a>(
 pub fn check_item<'a>(
     alloc: Global,
     state: &mut State<'a>,
+    spellings: &mut Spellings,
     place: Place,
     form: Form<'a>,
 ) -> Result<(), Refusal>
@@ -98,6 +109,6 @@ pub fn check_item<'a>(
 {
     match item_flaws::item_flaw(&state.declared, &form) {
         Some(kind) => Err(Refusal::Kind(kind)),
-        None => add_item(alloc, state, place, form),
+        None => add_item(alloc, state, spellings, place, form),
     }
 }

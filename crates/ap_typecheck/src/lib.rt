@@ -9,6 +9,7 @@ mod error;
 mod items;
 pub mod laws;
 mod locals;
+mod spellings;
 mod state;
 mod texts;
 mod typing;

@@ -6,8 +6,9 @@ ghost use Rattle.ap_scopes.specs.Views.{identifier_of};
 ghost use Rattle.ap_typecheck.specs.Checking as spec;
 ghost use Rattle.ap_typecheck.specs.Declaring as made;
 
+use crate::spellings::Spellings;
 use ap_defs::goals::{Kind, Local};
-use ap_defs::lists::{List, SharedText, Text};
+use ap_defs::lists::List;
 use ap_defs::memory::Memory;
 use ap_kinds::IdentKind;
 use ap_scopes::identifiers::Identifier;
@@ -35,20 +36,10 @@ pub fn classes_of(alloc: Global, found: &[Identifier<'_>]) -> Result<Vec<IdentKi
     Ok(classes)
 }
 
-/// The text of a word, which is shared where it is that of the given one.
-fn text_of(alloc: Global, shared: &SharedText, word: &str) -> Result<SharedText, Memory>
-    ensures { IfOk result (λ t. t ≡ word.now) }
-{
-    if shared.as_str() == word {
-        return shared.share();
-    }
-    SharedText::of(alloc, Text::of(String::from_str(alloc, word)?))
-}
-
-/// An identifier with its kind. All that are spelled as the given text share it.
+/// An identifier with its kind. Those that are spelled alike share their text.
 fn local(
     alloc: Global,
-    shared: &SharedText,
+    spellings: &mut Spellings,
     identifier: &Identifier<'_>,
     kind: Kind,
 ) -> Result<Local, Memory>
@@ -62,7 +53,7 @@ fn local(
     Ok(Local {
         kind,
         bound: identifier.bound,
-        text: text_of(alloc, shared, word)?,
+        text: spellings.text_of(alloc, word)?,
     })
 }
 
@@ -70,23 +61,20 @@ fn local(
 #[tactic(auto, using(crate::proofs::Sorted::with_kinds_none, std::proofs::lemmas::Grind::common_steps))]
 pub fn with_kinds(
     alloc: Global,
+    spellings: &mut Spellings,
     found: &[Identifier<'_>],
     kinds: Vec<Kind>,
 ) -> Result<List<Local>, Memory>
     ensures { IfOk result (λ ls. locals_of ls
         ≡ made.with_kinds (map identifier_of found.now) (map kind_of kinds.items)) }
 {
-    if found.is_empty() {
-        return Ok(List::of(Vec::new(alloc)));
-    }
     let mut locals = Vec::with_capacity(alloc, found.len())?;
-    let blank = SharedText::of(alloc, Text::of(String::from_str(alloc, "_")?))?;
     let mut rest = kinds.into_iter();
     for identifier in found {
         let Some(kind) = rest.next() else {
             return Ok(List::of(locals));
         };
-        locals.push(local(alloc, &blank, identifier, kind)?)?;
+        locals.push(local(alloc, spellings, identifier, kind)?)?;
     }
     Ok(List::of(locals))
 }

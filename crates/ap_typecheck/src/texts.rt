@@ -2,6 +2,7 @@
 
 use crate::error::{TypeError, text_error};
 use crate::items::check_item;
+use crate::spellings::Spellings;
 use crate::state::State;
 use ap_defs::faults::Place;
 use ap_defs::goals::Program;
@@ -12,10 +13,11 @@ use ap_scopes::words::Words;
 use ap_trees::Item;
 use std::alloc::Global;
 
-/// What the items of a text so far make, and the words of the text.
+/// What the items of a text so far make, the words of the text, and texts of words that identifiers share.
 pub struct Typing<'a> {
     state: State<'a>,
     words: Words<'a>,
+    spellings: Spellings,
     /// How many items there were.
     items: u32,
 }
@@ -26,6 +28,7 @@ impl Drop for Typing<'_> {
         let Typing {
             state: _state,
             words: _words,
+            spellings: _spellings,
             items: _,
         } = self;
     }
@@ -49,6 +52,7 @@ impl<'a> Typing<'a> {
         Typing {
             state: State::new(alloc),
             words: Words::new(alloc),
+            spellings: Spellings::new(alloc),
             items: 0,
         }
     }
@@ -70,7 +74,7 @@ impl<'a> Typing<'a> {
             Ok(()) => {}
             Err(Memory) => return Err(TypeError::Memory),
         }
-        match check_item(alloc, &mut self.state, place, form) {
+        match check_item(alloc, &mut self.state, &mut self.spellings, place, form) {
             Ok(()) => {}
             Err(refusal) => return Err(text_error(refusal, place)),
         }
@@ -86,6 +90,7 @@ impl<'a> Typing<'a> {
         let Typing {
             state,
             words,
+            spellings: _spellings,
             items: _,
         } = self;
         let texts = words.texts(alloc)?;

@@ -15,6 +15,7 @@ ghost use Rattle.ap_typecheck.specs.Views.{IsRefusedBy, clause_parts_of, query_p
 
 use crate::error::{Refusal, refusal_of_kinds};
 use crate::locals::{classes_of, with_kinds};
+use crate::spellings::Spellings;
 use ap_defs::faults::Place;
 use ap_defs::goals::{Clause, Goal, Kind, Query};
 use ap_defs::lists::List;
@@ -145,6 +146,7 @@ fn query_kinds(
 
 fn clause_with(
     alloc: Global,
+    spellings: &mut Spellings,
     place: Place,
     pred: u32,
     parts: ClauseParts<'_>,
@@ -161,12 +163,13 @@ fn clause_with(
         pred,
         args: terms_with_sorts(alloc, kinds.as_slice(), args)?,
         body: goal_with_sorts(alloc, kinds.as_slice(), body)?,
-        locals: with_kinds(alloc, found.as_slice(), kinds)?,
+        locals: with_kinds(alloc, spellings, found.as_slice(), kinds)?,
     })
 }
 
 fn query_with(
     alloc: Global,
+    spellings: &mut Spellings,
     place: Place,
     parts: QueryParts<'_>,
     kinds: Vec<Kind>,
@@ -180,7 +183,7 @@ fn query_with(
         item: place.item,
         line: place.line,
         goal: goal_with_sorts(alloc, kinds.as_slice(), goal)?,
-        locals: with_kinds(alloc, found.as_slice(), kinds)?,
+        locals: with_kinds(alloc, spellings, found.as_slice(), kinds)?,
     })
 }
 
@@ -190,6 +193,7 @@ pub fn typed_clause<'a>(
     alloc: Global,
     declared: &Declarations<'_>,
     inhabitants: &Inhabitants,
+    spellings: &mut Spellings,
     place: Place,
     word: &str,
     args: List<Tree<'a>>,
@@ -209,7 +213,7 @@ pub fn typed_clause<'a>(
     let pred = predicate_number(declared.predicate_place(word));
     match clause_kinds(alloc, declared, inhabitants, pred, &parts) {
         Err(refusal) => Err(refusal),
-        Ok(kinds) => Ok(clause_with(alloc, place, pred, parts, kinds)?),
+        Ok(kinds) => Ok(clause_with(alloc, spellings, place, pred, parts, kinds)?),
     }
 }
 
@@ -219,6 +223,7 @@ pub fn typed_query<'a>(
     alloc: Global,
     declared: &Declarations<'_>,
     inhabitants: &Inhabitants,
+    spellings: &mut Spellings,
     place: Place,
     goal: GoalTree<'a>,
 ) -> Result<Query<Raw>, Refusal>
@@ -234,6 +239,6 @@ pub fn typed_query<'a>(
     let parts = query_parts(alloc, declared, goal)?;
     match query_kinds(alloc, declared, inhabitants, &parts) {
         Err(refusal) => Err(refusal),
-        Ok(kinds) => Ok(query_with(alloc, place, parts, kinds)?),
+        Ok(kinds) => Ok(query_with(alloc, spellings, place, parts, kinds)?),
     }
 }

@@ -2,7 +2,7 @@
 use Rattle.std.proofs.Common.{◌≡◌, ◌<◌, ◌≤◌, ◌∙◌, ℕ, List, [], ◌∷◌, length, set, refl, sym, ap, inl, inr, subst, arith}
 use Rattle.ap_defs.specs.Types.{TypeShape, hole}
 use Rattle.ap_types.specs.declared.nodes.Node.{Node}
-use Rattle.ap_types.specs.Equations.{◌≐◌, Filling, filled, bound_of}
+use Rattle.ap_types.specs.Equations.{◌≐◌, Filling, filled}
 use Rattle.ap_types.specs.Solving.{shape_at}
 use Rattle.ap_types.specs.Triangular.{layer_of, shapes_of_nodes, Fits, IsFormed, AreFormed}
 use Rattle.ap_types.specs.Joining.{LoadsAll, ArePairsWithin}
@@ -32,16 +32,23 @@ module _ (ts : List TypeShape) (x : ℕ) (t : TypeShape) (below : x < length ts)
   }
 
 -- the same for the entries of a table
-pub fills : (ns ms : List Node) (x : ℕ) (n : Node) (s t : TypeShape) (ps : List (ℕ × ℕ)) → AreFormed (shapes_of_nodes ns) → s ≡ hole x → bound_of s ≤ length ns → layer_of n ≡ t
-    → shape_at (shapes_of_nodes ns) x ≡ hole x → IsFormed (length ns) x (layer_of n) → ms ≡ set ns x n → ArePairsWithin (length ns) ps
-    → LoadsAll (shapes_of_nodes ns) ps ((s ≐ t) ∷ []) (shapes_of_nodes ms) ps
-fills ns ms x n s t ps h e b i o k m w =
+pub fills : (ns ms : List Node) (x : ℕ) (n : Node) (ps : List (ℕ × ℕ)) → AreFormed (shapes_of_nodes ns) → x < length ns → shape_at (shapes_of_nodes ns) x ≡ hole x
+    → IsFormed (length ns) x (layer_of n) → ms ≡ set ns x n → ArePairsWithin (length ns) ps → LoadsAll (shapes_of_nodes ns) ps ((hole x ≐ layer_of n) ∷ []) (shapes_of_nodes ms) ps
+fills ns ms x n ps h b o k m w =
     let long = length_table ns in
-    let below : bound_of (hole x) ≤ length ns = subst (λ u. bound_of u ≤ length ns) e b in
     let formed : IsFormed (length (shapes_of_nodes ns)) x (layer_of n) = subst (λ l. IsFormed l x (layer_of n)) (sym long) k in
     let within : ArePairsWithin (length (shapes_of_nodes ns)) ps = subst (λ l. ArePairsWithin l ps) (sym long) w in
     let table : shapes_of_nodes ms ≡ set (shapes_of_nodes ns) x (layer_of n) = ap shapes_of_nodes m ∙ table_set ns x n in
-    let loads = loads_filled (shapes_of_nodes ns) x (layer_of n) (omega (arith, below, long)) o ps h formed within in
-    subst (λ us. LoadsAll (shapes_of_nodes ns) ps ((s ≐ t) ∷ []) us ps) (sym table)
-    (subst (λ u. LoadsAll (shapes_of_nodes ns) ps ((s ≐ u) ∷ []) (set (shapes_of_nodes ns) x (layer_of n)) ps) i
-    (subst (λ u. LoadsAll (shapes_of_nodes ns) ps ((u ≐ layer_of n) ∷ []) (set (shapes_of_nodes ns) x (layer_of n)) ps) (sym e) loads))
+    let loads = loads_filled (shapes_of_nodes ns) x (layer_of n) (omega (arith, b, long)) o ps h formed within in
+    subst (λ us. LoadsAll (shapes_of_nodes ns) ps ((hole x ≐ layer_of n) ∷ []) us ps) (sym table) loads
+
+-- a place that has the entry already stays as it is
+pub filled_already : (ns : List Node) (x : ℕ) (n : Node) (ps : List (ℕ × ℕ)) → AreFormed (shapes_of_nodes ns) → shape_at (shapes_of_nodes ns) x ≡ layer_of n → ArePairsWithin (length ns) ps
+    → LoadsAll (shapes_of_nodes ns) ps ((hole x ≐ layer_of n) ∷ []) (shapes_of_nodes ns) ps
+filled_already ns x n ps h e w = record {
+  longer = omega arith;
+  formed = h;
+  within = subst (λ l. ArePairsWithin l ps) (sym (length_table ns)) w;
+  solves = λ f b a. ((b, a), (b x ∙ ap (filled f) e, tt));
+  more = λ f b a s. (f, (b, a), λ y l. refl);
+}

@@ -1,13 +1,17 @@
 -- Shapes and equations in tables.
-use Rattle.std.proofs.Common.{◌≡◌, ◌<◌, ◌≤◌, ◌+◌, ◌↔◌, ◌∙◌, ℕ, List, [], ◌∷◌, ◌++◌, map, length, drop, get_or, refl, sym, ap, subst, arith}
+use Rattle.std.proofs.Common.{◌≡◌, inl, inr, ◌<◌, ◌≤◌, ◌+◌, ◌↔◌, ◌∙◌, ℕ, List, [], ◌∷◌, ◌++◌, map, length, drop, get_or, refl, sym, ap, subst, arith}
+use Rattle.std.specs.Prelude.{if◌then◌else◌}
+use Rattle.std.proofs.lemmas.Bool.Decides.{eqb_tells}
 use Rattle.std.proofs.lemmas.List.{at_drop_more}
 use Rattle.ap_defs.specs.declared.terms.Shape.{Shape}
 use Rattle.ap_defs.specs.Types.{TypeShape, shape_of}
+use Rattle.ap_types.specs.declared.nodes.Node.{Node}
+use Rattle.ap_types.specs.Assignments.{name_equation, name_equations}
 use Rattle.ap_types.specs.Equations.{ShapeEquation, ◌≐◌, Filling, bound_of, FillingSolves, equations_bound, equation_of}
-use Rattle.ap_types.specs.Triangular.{Fits, AreFormed}
+use Rattle.ap_types.specs.Triangular.{shapes_of_nodes, Fits, AreFormed}
 use Rattle.ap_types.specs.Joining.{Loads, LoadsAll, Agree, ArePairsWithin}
 use Rattle.ap_types.proofs.ShapeLemmas.{filled_below}
-use Rattle.ap_types.proofs.TableLemmas.{extends_on}
+use Rattle.ap_types.proofs.TableLemmas.{extends_on, length_table}
 
 pub within_more : (n m : ℕ) (ps : List (ℕ × ℕ)) → n ≤ m → ArePairsWithin n ps → ArePairsWithin m ps
 within_more n m [] l h = tt
@@ -122,3 +126,17 @@ pub bound_next : (es : List (Shape × Shape)) (i : ℕ) (e : Shape × Shape) (n 
 bound_next es i e n l h k =
     let m : equations_bound (equation_of e ∷ map equation_of (drop (i + 1) es)) ≤ n = subst (λ (fs : List ShapeEquation). equations_bound fs ≤ n) (equation_next es i e l h) k in
     (omega arith, omega arith)
+
+-- the same for the holes that must be name types
+pub name_next : (xs : List ℕ) (i : ℕ) → i < length xs → map name_equation (drop i xs) ≡ name_equation (get_or xs i 0) ∷ map name_equation (drop (i + 1) xs)
+name_next xs i l = ap (map name_equation) (at_drop_more (λ ys. ys) xs i 0 l)
+
+pub loads_no_names : (n : ℕ) (xs : List ℕ) (ns : List Node) (ps : List (ℕ × ℕ)) → (n ≡ 1 → ⊥) → AreFormed (shapes_of_nodes ns) → ArePairsWithin (length ns) ps
+    → LoadsAll (shapes_of_nodes ns) ps (name_equations n xs) (shapes_of_nodes ns) ps
+loads_no_names n xs ns ps other h w =
+    let ts = shapes_of_nodes ns in
+    let none = loads_none ts ps h (subst (λ m. ArePairsWithin m ps) (sym (length_table ns)) w) in
+    elim (eqb_tells n 1) [
+      | inl e ↦ absurd (other e.1)
+      | inr e ↦ subst (λ b. LoadsAll ts ps (if b then map name_equation xs else []) ts ps) (sym e.0) none
+    ]

@@ -53,7 +53,7 @@ names_solved n f xs h =
       | inr w ↦ rw w.0 tt
     ]
 
-bound_one : (xs : List ℕ) → equations_bound (map name_equation xs) ≤ names_bound xs
+pub bound_one : (xs : List ℕ) → equations_bound (map name_equation xs) ≤ names_bound xs
 bound_one [] = omega arith
 bound_one (x ∷ xs) = let h = bound_one xs in omega arith
 

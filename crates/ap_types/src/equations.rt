@@ -11,7 +11,7 @@ ghost use Rattle.ap_types.specs.Walking.{AreInOrder};
 
 use crate::errors::TypesError;
 use crate::joining::{join_all, shorten_all};
-use crate::loading::{Loaded, load_all, open_places};
+use crate::loading::{Loaded, load_all, load_name_equations, open_places};
 use crate::nodes::Node;
 use crate::parts::push_parts;
 use crate::solved::{Solved, are_names_or_holes};
@@ -101,24 +101,6 @@ fn bound_in_names(names: &[u64]) -> Result<usize, Memory>
     Ok(bound)
 }
 
-/// The equations by which holes are the one name type, where one is declared.
-fn equations_of_names(
-    alloc: Global,
-    names: &[u64],
-    name_types: u32,
-) -> Result<Vec<(Shape, Shape)>, Memory>
-    ensures { IfOk result (λ v. map equation_of v.items ≡ name_equations name_types names.now) }
-{
-    if name_types != 1 {
-        return Ok(Vec::new(alloc));
-    }
-    let mut equations = Vec::with_capacity(alloc, names.len())?;
-    for x in names {
-        equations.push((Shape::Hole(*x), Shape::Names(0)))?;
-    }
-    Ok(equations)
-}
-
 /// The equations and those by which holes are the one name type, put into a table whose first places
 /// are the holes.
 fn load_system(
@@ -132,12 +114,11 @@ fn load_system(
     ensures { IfOk result (λ l. LoadsSystem (map equation_of equations.now)
         (name_equations name_types names.now) holes (shapes_of_nodes l.nodes.items) l.pairs.items) }
 {
-    let by_names = equations_of_names(alloc, names, name_types)?;
-    let room = equations.len().saturating_add(by_names.len());
+    let room = equations.len().saturating_add(names.len());
     let nodes = open_places(alloc, holes, room)?;
     let pairs = Vec::with_capacity(alloc, room)?;
     let loaded = load_all(alloc, Loaded { nodes, pairs }, equations)?;
-    load_all(alloc, loaded, by_names.as_slice())
+    load_name_equations(alloc, loaded, names, name_types)
 }
 
 /// The table in which the pairs of places have become alike, and its places, each behind its parts.

@@ -2,7 +2,8 @@
 
 ghost use Rattle.std.specs.Prelude.{◌≡◌, ℕ, ◌+◌, ◌<◌, ◌≤◌, ◌++◌, ◌∷◌, [], List, length, map, true, false, IfOk, IfSome, OnOk};
 ghost use Rattle.ap_defs.specs.Types.{shape_of, hole};
-ghost use Rattle.ap_types.specs.Equations.{◌≐◌, equation_of, bound_of, equations_bound};
+ghost use Rattle.ap_types.specs.Assignments.{name_equation, name_equations};
+ghost use Rattle.ap_types.specs.Equations.{◌≐◌, equation_of, bound_of, equations_bound, names_bound};
 ghost use Rattle.ap_types.specs.Solving.{shape_at};
 ghost use Rattle.ap_types.specs.Triangular.{layer_of, shapes_of_nodes, IsFormed, AreFormed};
 ghost use Rattle.ap_types.specs.Loading.{lent_shapes, taken, place_in, parts_taken, entry_in};
@@ -171,8 +172,52 @@ fn may_stand_for(nodes: &[Node], x: usize, entry: Node) -> bool
     }
 }
 
+/// Whether a place has this entry, which has no parts.
+fn has_entry(nodes: &[Node], x: usize, entry: Node) -> bool
+    requires { x < length nodes.now }
+    ensures { result ≡ true → shape_at (shapes_of_nodes nodes.now) x ≡ layer_of entry }
+{
+    match nodes[x] {
+        Node::Place(y) => match entry {
+            Node::Place(z) => y == z,
+            _ => false,
+        },
+        Node::Unit => matches!(entry, Node::Unit),
+        Node::Names(sort) => match entry {
+            Node::Names(other) => sort == other,
+            _ => false,
+        },
+        Node::Base(base) => match entry {
+            Node::Base(other) => base == other,
+            _ => false,
+        },
+        _ => false,
+    }
+}
+
+/// Puts an entry into an open place, where it can stand, and answers whether it has it now; a place that has it
+/// already stays as it is.
+fn put(nodes: &mut Vec<Node>, x: usize, entry: Node) -> bool
+    requires formed { AreFormed (shapes_of_nodes nodes.old.items) }
+    requires within { x < length nodes.old.items }
+    requires bound { bound_of (layer_of entry) ≤ length nodes.old.items }
+    ensures filled { result ≡ true →
+        Fills nodes.old.items (hole x ≐ layer_of entry) nodes.new.items }
+    ensures kept { result ≡ false → nodes.new.items ≡ nodes.old.items }
+{
+    let places = nodes.as_slice();
+    if has_entry(places, x, entry) {
+        return true;
+    }
+    if !may_stand_for(places, x, entry) {
+        return false;
+    }
+    nodes[x] = entry;
+    true
+}
+
 /// Puts a shape into the place of a hole, where that is open and the shape has no parts but holes, and answers
-/// whether it did.
+/// whether it did. A place that has that shape already stays as it is.
 fn fill(nodes: &mut Vec<Node>, side: &Shape, t: &Shape) -> bool
     requires formed { AreFormed (shapes_of_nodes nodes.old.items) }
     requires left { bound_of (shape_of side.now) ≤ length nodes.old.items }
@@ -188,11 +233,7 @@ fn fill(nodes: &mut Vec<Node>, side: &Shape, t: &Shape) -> bool
     let Some(entry) = entry_of_holes(t) else {
         return false;
     };
-    if !may_stand_for(nodes.as_slice(), x, entry) {
-        return false;
-    }
-    nodes[x] = entry;
-    true
+    put(nodes, x, entry)
 }
 
 /// Puts one side of an equation into the place of the other, where that is an open hole, and answers whether it
@@ -271,4 +312,58 @@ pub(crate) fn load_all(
         all = load_equation(alloc, all, &e.0, &e.1)?;
     }
     Ok(all)
+}
+
+/// Puts the equation by which a hole is the one name type into a table.
+fn load_name(alloc: Global, loaded: Loaded, x: u64) -> Result<Loaded, Memory>
+    requires formed { AreFormed (shapes_of_nodes loaded.nodes.items) }
+    requires bound { x < length loaded.nodes.items }
+    requires within { ArePairsWithin (length loaded.nodes.items) loaded.pairs.items }
+    ensures { IfOk result (λ l. LoadsAll (shapes_of_nodes loaded.nodes.items) loaded.pairs.items
+        (name_equation x ∷ []) (shapes_of_nodes l.nodes.items) l.pairs.items) }
+{
+    let Loaded { mut nodes, pairs } = loaded;
+    if put(&mut nodes, x as usize, Node::Names(0)) {
+        return Ok(Loaded { nodes, pairs });
+    }
+    load_sides(
+        alloc,
+        Loaded { nodes, pairs },
+        &Shape::Hole(x),
+        &Shape::Names(0),
+    )
+}
+
+/// Puts the equations by which holes are the one name type into a table.
+fn load_names(alloc: Global, loaded: Loaded, names: &[u64]) -> Result<Loaded, Memory>
+    requires formed { AreFormed (shapes_of_nodes loaded.nodes.items) }
+    requires bound { names_bound names.now ≤ length loaded.nodes.items }
+    requires within { ArePairsWithin (length loaded.nodes.items) loaded.pairs.items }
+    ensures { IfOk result (λ l. LoadsAll (shapes_of_nodes loaded.nodes.items) loaded.pairs.items
+        (map name_equation names.now) (shapes_of_nodes l.nodes.items) l.pairs.items) }
+{
+    let mut all = loaded;
+    for x in names {
+        all = load_name(alloc, all, *x)?;
+    }
+    Ok(all)
+}
+
+/// Puts the equations by which holes are the one name type, where one is declared, into a table.
+pub(crate) fn load_name_equations(
+    alloc: Global,
+    loaded: Loaded,
+    names: &[u64],
+    name_types: u32,
+) -> Result<Loaded, Memory>
+    requires formed { AreFormed (shapes_of_nodes loaded.nodes.items) }
+    requires bound { names_bound names.now ≤ length loaded.nodes.items }
+    requires within { ArePairsWithin (length loaded.nodes.items) loaded.pairs.items }
+    ensures { IfOk result (λ l. LoadsAll (shapes_of_nodes loaded.nodes.items) loaded.pairs.items
+        (name_equations name_types names.now) (shapes_of_nodes l.nodes.items) l.pairs.items) }
+{
+    if name_types == 1 {
+        return load_names(alloc, loaded, names);
+    }
+    Ok(loaded)
 }

@@ -1,5 +1,4 @@
-use Rattle.std.proofs.Common.{true≢false, ap, sym, ◌∙◌}
-use Rattle.ap_kinds.proofs.InhabitedLemmas.{all_declared, some_undeclared}
+use Rattle.ap_kinds.proofs.InhabitedLemmas.{all_declared}
 use Rattle.ap_kinds.proofs.reading.are_declared.Goals as goal
 
 pub returns-clause-all : goal.returns-clause-all

@@ -15,5 +15,5 @@ returns-in-Err-check_item-clause-fault c = λ is more t.
 
 pub returns-clause-made : goal.returns-clause-made
 returns-clause-made c = λ is t.
-    let new : Typing = record { state = c.check_item.new.state; words = c.add_form.new.words; items = c.args.self.now.items + 1 } in
+    let new : Typing = record { state = c.check_item.new.state; words = c.add_form.new.words; spellings = c.check_item.new.spellings; items = c.args.self.now.items + 1 } in
     typing_on c.args.self.now new is (item_of c.args.item) t c.in-Ok-check_item.ensures.flawless c.in-Ok-check_item.ensures.made c.in-Ok.ensures refl c.in-Ok-check_item.ensures.kept
