@@ -154,14 +154,14 @@ pub fn taken_words<'a>(alloc: Global, words: &'a [Text]) -> Result<Taken<'a>, Me
 }
 
 /// The first so many of these numbers.
-fn first_of(alloc: Global, numbers: &[u64], count: usize) -> Result<Vec<u64>, Memory>
-    ensures { IfOk result (λ v. v.items ≡ take count numbers.now) }
+fn first_of(numbers: &[u64], count: usize) -> &[u64]
+    ensures { result.now ≡ take count numbers.now }
 {
     if numbers.len() <= count {
-        return Ok(numbers.to_vec(alloc)?);
+        return numbers;
     }
     let (first, _others) = numbers.split_at(count);
-    Ok(first.to_vec(alloc)?)
+    first
 }
 
 /// The numbers of the first so many words among a letter with 1, 2, 3 and so on that are not taken, of which there
@@ -182,7 +182,8 @@ pub fn generated_numbers(
     let Some(limit) = count.checked_add(words.len()) else {
         return Err(Memory);
     };
-    let mut numbers = first_of(alloc, free.numbers.as_slice(), count)?;
+    let mut numbers = Vec::with_capacity(alloc, count)?;
+    numbers.extend_from_slice(first_of(free.numbers.as_slice(), count))?;
     for i in free.tried..limit {
         if numbers.len() == count {
             break;
