@@ -22,7 +22,7 @@ loop-i-init c =
     let both : tried + (limit - tried) ≡ c.args.count + length c.args.words.now = omega arith in
     let made = c.extend_from_slice.new.self.items in
     let first : made ≡ take c.args.count c.as_slice.result.now =
-    c.in_ok-extend_from_slice.ensures.items ∙ ap (λ (ks : List ℕ). ks ++ c.first_of.result.now) c.in_ok-numbers.ensures.empty ∙ c.first_of.ensures
+    c.in_ok-extend_from_slice.ensures.items ∙ ap (λ (ks : List ℕ). ks ++ c.first_of.result.now) c.in_ok-numbers.ensures.items ∙ c.first_of.ensures
     in
     record {
       all =
