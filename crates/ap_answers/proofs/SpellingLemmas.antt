@@ -7,7 +7,6 @@ use Rattle.std.proofs.lemmas.Option.{slice_get-map}
 use Rattle.std.specs.List.{position_or_len}
 use Rattle.std.proofs.lemmas.Bool.Decides.{nat_tests}
 use mathlib.Core.Path.{fun_ext}
-use denote.Ref.{Bor}
 use Rattle.ap_defs.specs.declared.terms.Name.{Name}
 use Rattle.ap_defs.specs.declared.terms.Var.{Var}
 use Rattle.ap_defs.specs.Permutations.{name_eq}
@@ -18,7 +17,6 @@ use Rattle.ap_defs.specs.Goals.{NominalProgram}
 use Rattle.ap_defs.specs.Renaming.{local_names, name_unless}
 use Rattle.ap_defs.specs.Printing.{Spelling, name_word, var_word, new_words}
 use Rattle.ap_defs.specs.Lines.{NominalShown, spelling_for, name_texts, text_of_name}
-use Rattle.ap_answers.specs.Locals.{lent_texts}
 use Rattle.ap_answers.specs.Spelled.{text_at}
 use Rattle.ap_answers.specs.Words.{numbered_words}
 use Rattle.ap_answers.proofs.ConditionLemmas.{name_flips, var_flips}
@@ -95,14 +93,13 @@ numbered_past letter numbers i e =
     let f : ℕ → List ℕ = λ k. letter ++ decimal k in
     ap (λ (o : Option (List ℕ)). unwrap_or o []) (slice_get-map f numbers i ∙ ap (option_map f) e)
 
--- a text at a place of those that are lent, or of those behind them
-pub lent_there : (lent : List (Bor (List ℕ))) (others : List (List ℕ)) (i : ℕ) (text : Bor (List ℕ)) → i < length lent → text ≡ get_or lent i text
-    → text_at (lent_texts lent ++ others) (Some i) ≡ text.now
-lent_there [] others i text l e = absurd (omega arith)
-lent_there (t ∷ ts) others zero text l e = ap (λ (w : Bor (List ℕ)). w.now) (sym e)
-lent_there (t ∷ ts) others (suc i) text l e = lent_there ts others i text (omega arith) e
+-- a text at a place of some, or of those behind them
+pub text_there : (ws vs : List (List ℕ)) (i : ℕ) (w : List ℕ) → i < length ws → w ≡ get_or ws i w → text_at (ws ++ vs) (Some i) ≡ w
+text_there [] vs i w l e = absurd (omega arith)
+text_there (v ∷ ws) vs zero w l e = sym e
+text_there (v ∷ ws) vs (suc i) w l e = text_there ws vs i w (omega arith) e
 
-pub behind_lent : (lent : List (Bor (List ℕ))) (others : List (List ℕ)) (i k : ℕ) → i ≡ length lent + k → text_at (lent_texts lent ++ others) (Some i) ≡ text_at others (Some k)
-behind_lent [] others i k e = let same : i ≡ k = omega arith in ap (λ n. text_at others (Some n)) same
-behind_lent (t ∷ ts) others zero k e = absurd (omega arith)
-behind_lent (t ∷ ts) others (suc i) k e = behind_lent ts others i k (omega arith)
+pub text_behind : (ws vs : List (List ℕ)) (i k : ℕ) → i ≡ length ws + k → text_at (ws ++ vs) (Some i) ≡ text_at vs (Some k)
+text_behind [] vs i k e = let same : i ≡ k = omega arith in ap (λ n. text_at vs (Some n)) same
+text_behind (w ∷ ws) vs zero k e = absurd (omega arith)
+text_behind (w ∷ ws) vs (suc i) k e = text_behind ws vs i k (omega arith)

@@ -4,7 +4,6 @@ use Rattle.ap_defs.specs.Permutations.{name_eq}
 use Rattle.ap_defs.specs.Freshness.{var_eq}
 use Rattle.ap_defs.specs.Types.{constructor_of}
 use Rattle.ap_defs.specs.Printing.{Spelling}
-use Rattle.ap_answers.specs.Locals.{lent_texts}
 use Rattle.ap_answers.specs.Words.{numbered_words}
 use Rattle.ap_answers.specs.declared.speller.NameTexts.{NameTexts}
 use Rattle.ap_answers.specs.declared.speller.NameTexts.TheVariants as name_texts
@@ -19,7 +18,7 @@ texts_of (texts.Numbered ns) = numbered_words (codes "_") ns.items
 
 abbrev pub name_texts_of : NameTexts → List (List ℕ)
 name_texts_of (name_texts.Written ts) = ts.items
-name_texts_of (name_texts.Numbered ts ns) = lent_texts ts.items ++ numbered_words (codes "n") ns.items
+name_texts_of (name_texts.Numbered ts ns) = ts.items ++ numbered_words (codes "n") ns.items
 
 abbrev pub text_at : List (List ℕ) → Option ℕ → List ℕ
 text_at texts None = []

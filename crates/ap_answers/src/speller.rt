@@ -7,13 +7,12 @@ ghost use Rattle.ap_defs.specs.Goals.{program_of};
 ghost use Rattle.ap_defs.specs.Renaming.{local_names};
 ghost use Rattle.ap_defs.specs.Lines.{NominalShown, spelling_for};
 ghost use Rattle.ap_answers.specs.Words.{IsTaken, numbered_words};
-ghost use Rattle.ap_answers.specs.Locals.{lent_texts};
 ghost use Rattle.ap_answers.specs.Spelled.{name_texts_of, spelling_in, text_at, texts_of};
 
 use crate::locals::free_name_texts;
 use crate::words::{Taken, generated_numbers};
 use ap_defs::goals::{Constructor, Local, Program};
-use ap_defs::lists::Text;
+use ap_defs::lists::{SharedText, Text};
 use ap_defs::memory::Memory;
 use ap_defs::terms::{Name, Term, Var};
 use indexmap::IndexSet;
@@ -27,12 +26,12 @@ pub enum VarTexts {
     Numbered(Vec<u64>),
 }
 
-/// The texts of names: as they are written, or those of a query's free names, which it lends, and then the numbers of
+/// The texts of names: as they are written, or those of a query's free names, which it shares, and then the numbers of
 /// `n1`, `n2` and so on, which take less room.
 #[derive(Drop)]
-pub enum NameTexts<'a> {
+pub enum NameTexts {
     Written(Vec<Text>),
-    Numbered(Vec<&'a Text>, Vec<u64>),
+    Numbered(Vec<SharedText>, Vec<u64>),
 }
 
 /// The names and the variables that are written, each with its text at the same place, and the
@@ -40,7 +39,7 @@ pub enum NameTexts<'a> {
 #[derive(Drop)]
 pub struct Speller<'a> {
     pub names: &'a IndexSet<Name>,
-    pub name_texts: NameTexts<'a>,
+    pub name_texts: NameTexts,
     pub vars: &'a IndexSet<Var>,
     pub var_texts: VarTexts,
     pub constructors: &'a [Constructor],
@@ -75,34 +74,34 @@ fn write_numbered_at(
     Ok(())
 }
 
-/// Writes the text at this place among those that are lent and then those of numbers, if there is one.
-#[tactic(auto, using(crate::proofs::SpellingLemmas::lent_there, crate::proofs::SpellingLemmas::behind_lent))]
-fn write_lent_or_numbered_at(
+/// Writes the text at this place among those that are shared and then those of numbers, if there is one.
+#[tactic(auto, using(crate::proofs::SpellingLemmas::text_there, crate::proofs::SpellingLemmas::text_behind))]
+fn write_shared_or_numbered_at(
     out: &mut Vec<u8>,
-    lent: &[&Text],
+    shared: &[SharedText],
     numbers: &[u64],
     place: usize,
 ) -> Result<(), Memory>
     ensures { OnOk result (out.new.items
         ≡ out.old.items
-        ++ text_at (lent_texts lent.now ++ numbered_words (codes "n") numbers.now) (Some place)) }
+        ++ text_at (shared.now ++ numbered_words (codes "n") numbers.now) (Some place)) }
 {
-    if place < lent.len() {
-        out.extend_from_slice(lent[place].as_str().as_bytes())?;
+    if place < shared.len() {
+        out.extend_from_slice(shared[place].as_str().as_bytes())?;
         return Ok(());
     }
-    write_numbered_at(out, b'n', numbers, place - lent.len())
+    write_numbered_at(out, b'n', numbers, place - shared.len())
 }
 
 /// Writes the text of the name at this place, if there is one.
-fn write_name_at(out: &mut Vec<u8>, texts: &NameTexts<'_>, place: usize) -> Result<(), Memory>
+fn write_name_at(out: &mut Vec<u8>, texts: &NameTexts, place: usize) -> Result<(), Memory>
     ensures { OnOk result (out.new.items
         ≡ out.old.items ++ text_at (name_texts_of texts.now) (Some place)) }
 {
     match texts {
         NameTexts::Written(written) => write_at(out, written.as_slice(), place),
-        NameTexts::Numbered(lent, numbers) => {
-            write_lent_or_numbered_at(out, lent.as_slice(), numbers.as_slice(), place)
+        NameTexts::Numbered(shared, numbers) => {
+            write_shared_or_numbered_at(out, shared.as_slice(), numbers.as_slice(), place)
         }
     }
 }
@@ -171,7 +170,7 @@ pub fn speller_for<'a>(
     alloc: Global,
     program: &'a Program<Term>,
     taken: &Taken<'_>,
-    locals: &'a [Local],
+    locals: &[Local],
     names: &'a IndexSet<Name>,
     vars: &'a IndexSet<Var>,
 ) -> Result<Speller<'a>, Memory>
@@ -182,14 +181,14 @@ pub fn speller_for<'a>(
         spelling_in by ≡ spelling_for (program_of program.now) (locals_of locals.now) s) }
 {
     let words = program.words.items();
-    let written = free_name_texts(alloc, locals)?;
-    let others = names.len().saturating_sub(written.len());
+    let shared = free_name_texts(alloc, locals)?;
+    let others = names.len().saturating_sub(shared.len());
     let made = generated_numbers(alloc, "n", words, &taken.words, &taken.names, others)?;
     let numbers = generated_numbers(alloc, "_", words, &taken.words, &taken.vars, vars.len())?;
     let constructors = program.signature.constructors.items();
     Ok(Speller {
         names,
-        name_texts: NameTexts::Numbered(written, made),
+        name_texts: NameTexts::Numbered(shared, made),
         vars,
         var_texts: VarTexts::Numbered(numbers),
         constructors,

@@ -1,19 +1,21 @@
 //! What the identifiers of the items of a derivation stand for.
 
 ghost use Rattle.std.specs.Prelude.{◌≡◌, ◌<◌, ◌+◌, ◌++◌, ◌∷◌, [], map, slice_get, IfOk, OnOk};
+ghost use Rattle.ap_program.specs.FreeLocals.{free_sort};
 ghost use Rattle.ap_answers.specs.Locals.{lent_texts};
 ghost use Rattle.ap_checks.specs.Checks.{node_count};
 ghost use Rattle.ap_defs.specs.Derivations.{derivation_of};
 ghost use Rattle.ap_defs.specs.Goals.{Clauses, clause_of, goal_of, program_of};
+ghost use Rattle.ap_defs.specs.Lines.{name_texts};
 ghost use Rattle.ap_defs.specs.Terms.{term_of};
-ghost use Rattle.ap_defs.specs.Types.{locals_of};
+ghost use Rattle.ap_defs.specs.Types.{local_of, locals_of};
 ghost use Rattle.ap_spelling.specs.Spelt.{givens_of};
 ghost use Rattle.ap_spelling.specs.Words.{name};
 ghost use Rattle.ap_steps.specs.Givens.{by_local, clause_givens, givens, names_given, var_given, vars_given};
 ghost use Rattle.ap_steps.specs.Obligations.{givens_at, givens_left, obligation_nodes};
 
-use ap_answers::locals::{free_name_texts, variable_texts};
-use ap_defs::goals::{Clause, Goal, Local, Program};
+use ap_answers::locals::variable_texts;
+use ap_defs::goals::{Clause, Goal, Kind, Local, Program};
 use ap_defs::lists::Text;
 use ap_defs::memory::Memory;
 use ap_defs::outcomes::Derivation;
@@ -28,6 +30,29 @@ pub(crate) struct Obligation<'a> {
     pub derivation: &'a Derivation,
     pub goal: &'a Goal<Term>,
     pub locals: &'a [Local],
+}
+
+/// The sort of an identifier that is a free name.
+fn sort_of(local: &Local) -> Option<u32>
+    ensures { result ≡ free_sort (local_of local.now) }
+{
+    match &local.kind {
+        Kind::Name(sort) if !local.bound => Some(*sort),
+        _ => None,
+    }
+}
+
+/// The spellings of the free names, in order.
+pub(crate) fn lent_name_texts(alloc: Global, locals: &[Local]) -> Result<Vec<&Text>, Memory>
+    ensures { IfOk result (λ texts. lent_texts texts.items ≡ name_texts (locals_of locals.now)) }
+{
+    let mut texts = Vec::new(alloc);
+    for local in locals {
+        if sort_of(local).is_some() {
+            texts.push(local.text.text())?;
+        }
+    }
+    Ok(texts)
 }
 
 /// Adds a variable that a term is.
@@ -116,7 +141,7 @@ fn take_clause<'a>(
         ≡ node_count (derivation_of below.entry.now) + obligation_nodes waiting.old.items) }
 {
     let locals = clause.locals.items();
-    let words = free_name_texts(alloc, locals)?;
+    let words = lent_name_texts(alloc, locals)?;
     add_names_given(given, names, words.as_slice())?;
     let words = variable_texts(alloc, locals)?;
     add_vars_given(given, terms, words.as_slice())?;

@@ -17,9 +17,9 @@ ghost use Rattle.ap_spelling.specs.Spelt.{givens_of, last_of, spelt_of};
 ghost use Rattle.ap_spelling.specs.Words.{kept_words};
 ghost use Rattle.ap_steps.specs.Spelling.{all_givens, bare_names, bare_vars, first_numbered, first_spelt, other_givens, spelt, text_of_constructor};
 
-use crate::givens::{add_names_given, givens_in};
+use crate::givens::{add_names_given, givens_in, lent_name_texts};
 use crate::names::{add_all_names, add_all_vars, nodes_of};
-use ap_answers::locals::{free_name_texts, free_names, variable_texts};
+use ap_answers::locals::{free_names, variable_texts};
 use ap_defs::goals::{Constructor, Local, Program, Query};
 use ap_defs::lists::Text;
 use ap_defs::memory::Memory;
@@ -88,7 +88,7 @@ fn own_names<'a>(alloc: Global, locals: &'a [Local]) -> Result<Vec<Given<'a>>, M
         (local_names zero (locals_of locals.entry.now)) (name_texts (locals_of locals.entry.now))) }
 {
     let names = free_names(alloc, locals)?;
-    let words = free_name_texts(alloc, locals)?;
+    let words = lent_name_texts(alloc, locals)?;
     let mut given = Vec::new(alloc);
     add_names_given(&mut given, names.as_slice(), words.as_slice())?;
     Ok(given)
