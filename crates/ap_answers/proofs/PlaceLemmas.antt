@@ -1,6 +1,6 @@
 -- A variable that stands at a place of variables that are all different has that place.
-use Rattle.std.proofs.Common.{◌≡◌, ℕ, zero, suc, ◌+◌, Bool, true, false, cond, List, [], ◌∷◌, length, nat_lt, refl, sym, subst, ap, ◌∙◌, arith, ◌==◌}
-use Rattle.std.specs.Prelude.{position, Some, None, slice_get}
+use Rattle.std.proofs.Common.{◌≡◌, ℕ, zero, suc, ◌+◌, true, false, List, [], ◌∷◌, length, nat_lt, refl, subst, ap, ◌∙◌, arith, ◌==◌}
+use Rattle.std.specs.Prelude.{position, Some, slice_get}
 use Rattle.std.specs.List.{position_or_len, IsDistinct, AllByRecursion}
 use Rattle.std.specs.Option.{unwrap_or}
 use Rattle.std.proofs.lemmas.Bool.Decides.{nat_tests}

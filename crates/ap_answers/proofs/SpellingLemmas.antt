@@ -1,5 +1,5 @@
 -- The spelling of a table, and the spelling of an answer.
-use Rattle.std.proofs.Common.{◌≡◌, ℕ, zero, suc, ◌+◌, ◌-◌, Bool, true, false, cond, List, [], ◌∷◌, ◌++◌, length, nat_lt, refl, ap, ap₂, ◌∙◌, arith, length-append}
+use Rattle.std.proofs.Common.{◌≡◌, ℕ, zero, suc, ◌+◌, ◌-◌, Bool, true, false, cond, List, [], ◌∷◌, ◌++◌, length, nat_lt, get_or, refl, sym, ap, ap₂, ◌∙◌, arith, length-append, ◌<◌}
 use Rattle.std.specs.Prelude.{if◌then◌else◌, position, Option, Some, None, codes, slice_get, unwrap_or}
 use Rattle.std.specs.Option.{option_map}
 use Rattle.std.specs.Fmt.{decimal}
@@ -92,3 +92,14 @@ pub numbered_past : (letter numbers : List ℕ) (i : ℕ) → slice_get numbers 
 numbered_past letter numbers i e =
     let f : ℕ → List ℕ = λ k. letter ++ decimal k in
     ap (λ (o : Option (List ℕ)). unwrap_or o []) (slice_get-map f numbers i ∙ ap (option_map f) e)
+
+-- a text at a place of some, or of those behind them
+pub text_there : (ws vs : List (List ℕ)) (i : ℕ) (w : List ℕ) → i < length ws → w ≡ get_or ws i w → text_at (ws ++ vs) (Some i) ≡ w
+text_there [] vs i w l e = absurd (omega arith)
+text_there (v ∷ ws) vs zero w l e = sym e
+text_there (v ∷ ws) vs (suc i) w l e = text_there ws vs i w (omega arith) e
+
+pub text_behind : (ws vs : List (List ℕ)) (i k : ℕ) → i ≡ length ws + k → text_at (ws ++ vs) (Some i) ≡ text_at vs (Some k)
+text_behind [] vs i k e = let same : i ≡ k = omega arith in ap (λ n. text_at vs (Some n)) same
+text_behind (w ∷ ws) vs zero k e = absurd (omega arith)
+text_behind (w ∷ ws) vs (suc i) k e = text_behind ws vs i k (omega arith)

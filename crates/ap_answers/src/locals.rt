@@ -9,7 +9,7 @@ ghost use Rattle.ap_answers.specs.Locals.{AllBelow, lent_texts};
 
 use crate::occurrences::add_name;
 use ap_defs::goals::{Kind, Local};
-use ap_defs::lists::Text;
+use ap_defs::lists::{SharedText, Text};
 use ap_defs::memory::Memory;
 use ap_defs::terms::Name;
 use indexmap::IndexSet;
@@ -49,13 +49,13 @@ pub fn variable_texts(alloc: Global, locals: &[Local]) -> Result<Vec<&Text>, Mem
 }
 
 /// The spellings of the free names, in order.
-pub fn free_name_texts(alloc: Global, locals: &[Local]) -> Result<Vec<Text>, Memory>
+pub fn free_name_texts(alloc: Global, locals: &[Local]) -> Result<Vec<SharedText>, Memory>
     ensures { IfOk result (λ texts. texts.items ≡ name_texts (locals_of locals.now)) }
 {
     let mut texts = Vec::new(alloc);
     for local in locals {
         if sort_of(local).is_some() {
-            texts.push(local.text.text().copy(alloc)?)?;
+            texts.push(local.text.share()?)?;
         }
     }
     Ok(texts)

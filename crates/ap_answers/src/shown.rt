@@ -1,6 +1,6 @@
 //! What is shown of an answer.
 
-ghost use Rattle.std.specs.Prelude.{◌≡◌, [], zero, IfOk};
+ghost use Rattle.std.specs.Prelude.{◌≡◌, [], zero, IfOk, OnOk};
 ghost use Rattle.ap_defs.specs.Types.{locals_of};
 ghost use Rattle.ap_defs.specs.Renaming.{local_names};
 ghost use Rattle.ap_defs.specs.Occurrences.{names_of_terms, vars_of_terms};
@@ -39,6 +39,20 @@ struct Occurring {
     vars: IndexSet<Var>,
 }
 
+/// As many names as there is room for at once, at most.
+const MOST_ROOM: usize = 128;
+
+/// Makes room for as many other names as a query has other identifiers, unless it has no free names.
+fn make_room(names: &mut IndexSet<Name>, identifiers: usize) -> Result<(), Memory>
+    ensures { OnOk result (names.new.keys ≡ names.old.keys) }
+{
+    if !names.is_empty() {
+        let others = identifiers.saturating_sub(names.len());
+        names.reserve(others.min(MOST_ROOM))?;
+    }
+    Ok(())
+}
+
 /// The query's free names, and then the others of the bindings, and the variables of these, by first occurrence.
 fn occurring_in(alloc: Global, locals: &[Local], binds: &[Binding<'_>]) -> Result<Occurring, Memory>
     ensures names { IfOk result (λ o. o.names.keys
@@ -48,6 +62,7 @@ fn occurring_in(alloc: Global, locals: &[Local], binds: &[Binding<'_>]) -> Resul
         ≡ first_vars [] (vars_of_terms (terms_of_binds (binds_of binds.now)))) }
 {
     let mut names = free_names(alloc, locals)?;
+    make_room(&mut names, locals.len())?;
     let mut vars = IndexSet::new(alloc);
     for bind in binds {
         add_names_and_vars(alloc, &mut names, &mut vars, bind.term)?;

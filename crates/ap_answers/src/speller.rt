@@ -1,18 +1,18 @@
 //! How the names, variables and constructors of an answer are spelled.
 
-ghost use Rattle.std.specs.Prelude.{◌≡◌, zero, ◌++◌, Some, codes, position, slice_get, OnOk, IfOk, IfSome};
+ghost use Rattle.std.specs.Prelude.{◌≡◌, zero, [], ◌∷◌, ◌++◌, Some, codes, position, slice_get, OnOk, IfOk, IfSome};
 ghost use Rattle.ap_defs.specs.Freshness.{var_eq};
 ghost use Rattle.ap_defs.specs.Types.{locals_of};
 ghost use Rattle.ap_defs.specs.Goals.{program_of};
 ghost use Rattle.ap_defs.specs.Renaming.{local_names};
 ghost use Rattle.ap_defs.specs.Lines.{NominalShown, spelling_for};
 ghost use Rattle.ap_answers.specs.Words.{IsTaken, numbered_words};
-ghost use Rattle.ap_answers.specs.Spelled.{spelling_in, text_at, texts_of};
+ghost use Rattle.ap_answers.specs.Spelled.{name_texts_of, spelling_in, text_at, texts_of};
 
 use crate::locals::free_name_texts;
-use crate::words::{Taken, generated, generated_numbers};
+use crate::words::{Taken, generated_numbers};
 use ap_defs::goals::{Constructor, Local, Program};
-use ap_defs::lists::Text;
+use ap_defs::lists::{SharedText, Text};
 use ap_defs::memory::Memory;
 use ap_defs::terms::{Name, Term, Var};
 use indexmap::IndexSet;
@@ -26,12 +26,20 @@ pub enum VarTexts {
     Numbered(Vec<u64>),
 }
 
+/// The texts of names: as they are written, or those of a query's free names, which it shares, and then the numbers of
+/// `n1`, `n2` and so on, which take less room.
+#[derive(Drop)]
+pub enum NameTexts {
+    Written(Vec<Text>),
+    Numbered(Vec<SharedText>, Vec<u64>),
+}
+
 /// The names and the variables that are written, each with its text at the same place, and the
 /// declared constructors.
 #[derive(Drop)]
 pub struct Speller<'a> {
     pub names: &'a IndexSet<Name>,
-    pub name_texts: Vec<Text>,
+    pub name_texts: NameTexts,
     pub vars: &'a IndexSet<Var>,
     pub var_texts: VarTexts,
     pub constructors: &'a [Constructor],
@@ -47,18 +55,55 @@ fn write_at(out: &mut Vec<u8>, texts: &[Text], place: usize) -> Result<(), Memor
     Ok(())
 }
 
-/// Writes `_` with the number at this place, if there is one.
+/// Writes a letter with the number at this place, if there is one.
 #[tactic(auto, using(crate::proofs::SpellingLemmas::numbered_there, crate::proofs::SpellingLemmas::numbered_past))]
-fn write_numbered_at(out: &mut Vec<u8>, numbers: &[u64], place: usize) -> Result<(), Memory>
+fn write_numbered_at(
+    out: &mut Vec<u8>,
+    letter: u8,
+    numbers: &[u64],
+    place: usize,
+) -> Result<(), Memory>
     ensures { OnOk result (out.new.items
-        ≡ out.old.items ++ text_at (numbered_words (codes "_") numbers.now) (Some place)) }
+        ≡ out.old.items ++ text_at (numbered_words (letter ∷ []) numbers.now) (Some place)) }
 {
     if let Some(number) = numbers.get(place) {
         let mut digits = Buffer::new();
-        out.push(b'_')?;
+        out.push(letter)?;
         out.extend_from_slice(digits.format(*number).as_bytes())?;
     }
     Ok(())
+}
+
+/// Writes the text at this place among those that are shared and then those of numbers, if there is one.
+#[tactic(auto, using(crate::proofs::SpellingLemmas::text_there, crate::proofs::SpellingLemmas::text_behind))]
+fn write_shared_or_numbered_at(
+    out: &mut Vec<u8>,
+    shared: &[SharedText],
+    numbers: &[u64],
+    place: usize,
+) -> Result<(), Memory>
+    ensures { OnOk result (out.new.items
+        ≡ out.old.items
+        ++ text_at (shared.now ++ numbered_words (codes "n") numbers.now) (Some place)) }
+{
+    if place < shared.len() {
+        out.extend_from_slice(shared[place].as_str().as_bytes())?;
+        return Ok(());
+    }
+    write_numbered_at(out, b'n', numbers, place - shared.len())
+}
+
+/// Writes the text of the name at this place, if there is one.
+fn write_name_at(out: &mut Vec<u8>, texts: &NameTexts, place: usize) -> Result<(), Memory>
+    ensures { OnOk result (out.new.items
+        ≡ out.old.items ++ text_at (name_texts_of texts.now) (Some place)) }
+{
+    match texts {
+        NameTexts::Written(written) => write_at(out, written.as_slice(), place),
+        NameTexts::Numbered(shared, numbers) => {
+            write_shared_or_numbered_at(out, shared.as_slice(), numbers.as_slice(), place)
+        }
+    }
 }
 
 /// Writes the text of the variable at this place, if there is one.
@@ -68,7 +113,7 @@ fn write_var_at(out: &mut Vec<u8>, texts: &VarTexts, place: usize) -> Result<(),
 {
     match texts {
         VarTexts::Written(written) => write_at(out, written.as_slice(), place),
-        VarTexts::Numbered(numbers) => write_numbered_at(out, numbers.as_slice(), place),
+        VarTexts::Numbered(numbers) => write_numbered_at(out, b'_', numbers.as_slice(), place),
     }
 }
 
@@ -103,7 +148,7 @@ impl Speller<'_> {
         ensures { OnOk result (out.new.items ≡ out.old.items ++ (spelling_in self.now).names name) }
     {
         if let Some(place) = self.names.get_index_of(&name) {
-            write_at(out, self.name_texts.as_slice(), place)?;
+            write_name_at(out, &self.name_texts, place)?;
         }
         Ok(())
     }
@@ -136,15 +181,14 @@ pub fn speller_for<'a>(
         spelling_in by ≡ spelling_for (program_of program.now) (locals_of locals.now) s) }
 {
     let words = program.words.items();
-    let mut name_texts = free_name_texts(alloc, locals)?;
-    let others = names.len().saturating_sub(name_texts.len());
-    let mut made = generated(alloc, "n", words, &taken.words, &taken.names, others)?;
-    name_texts.append(&mut made)?;
+    let shared = free_name_texts(alloc, locals)?;
+    let others = names.len().saturating_sub(shared.len());
+    let made = generated_numbers(alloc, "n", words, &taken.words, &taken.names, others)?;
     let numbers = generated_numbers(alloc, "_", words, &taken.words, &taken.vars, vars.len())?;
     let constructors = program.signature.constructors.items();
     Ok(Speller {
         names,
-        name_texts,
+        name_texts: NameTexts::Numbered(shared, made),
         vars,
         var_texts: VarTexts::Numbered(numbers),
         constructors,

@@ -154,14 +154,14 @@ pub fn taken_words<'a>(alloc: Global, words: &'a [Text]) -> Result<Taken<'a>, Me
 }
 
 /// The first so many of these numbers.
-fn first_of(alloc: Global, numbers: &[u64], count: usize) -> Result<Vec<u64>, Memory>
-    ensures { IfOk result (λ v. v.items ≡ take count numbers.now) }
+fn first_of(numbers: &[u64], count: usize) -> &[u64]
+    ensures { result.now ≡ take count numbers.now }
 {
     if numbers.len() <= count {
-        return Ok(numbers.to_vec(alloc)?);
+        return numbers;
     }
     let (first, _others) = numbers.split_at(count);
-    Ok(first.to_vec(alloc)?)
+    first
 }
 
 /// The numbers of the first so many words among a letter with 1, 2, 3 and so on that are not taken, of which there
@@ -182,7 +182,8 @@ pub fn generated_numbers(
     let Some(limit) = count.checked_add(words.len()) else {
         return Err(Memory);
     };
-    let mut numbers = first_of(alloc, free.numbers.as_slice(), count)?;
+    let mut numbers = Vec::with_capacity(alloc, count)?;
+    numbers.extend_from_slice(first_of(free.numbers.as_slice(), count))?;
     for i in free.tried..limit {
         if numbers.len() == count {
             break;
@@ -197,43 +198,4 @@ pub fn generated_numbers(
         )?;
     }
     Ok(numbers)
-}
-
-/// Adds the word of a letter and a number.
-fn push_word(alloc: Global, made: &mut Vec<Text>, letter: &str, number: u64) -> Result<(), Memory>
-    ensures { OnOk result (made.new.items
-        ≡ made.old.items ++ (letter.now ++ decimal number) ∷ []) }
-{
-    let word = format!(in alloc; "{letter}{number}")?;
-    made.push(Text::of(word))?;
-    Ok(())
-}
-
-/// The words of a letter with these numbers.
-fn words_of(alloc: Global, letter: &str, numbers: &[u64]) -> Result<Vec<Text>, Memory>
-    ensures { IfOk result (λ made. made.items ≡ numbered_words letter.now numbers.now) }
-{
-    let mut made = Vec::with_capacity(alloc, numbers.len())?;
-    for number in numbers {
-        push_word(alloc, &mut made, letter, *number)?;
-    }
-    Ok(made)
-}
-
-/// The first so many words among a letter with 1, 2, 3 and so on that are not taken, as `generated_numbers` has their
-/// numbers.
-pub fn generated(
-    alloc: Global,
-    letter: &str,
-    words: &[Text],
-    taken: &HashSet<&str>,
-    free: &Free,
-    count: usize,
-) -> Result<Vec<Text>, Memory>
-    requires taken { (w : list ℕ) → knows taken.now w ≡ has_word w words.now }
-    requires free { AreFree letter.now words.now free.now }
-    ensures { IfOk result (λ made. made.items ≡ new_words letter.now words.now count) }
-{
-    let numbers = generated_numbers(alloc, letter, words, taken, free, count)?;
-    words_of(alloc, letter, numbers.as_slice())
 }

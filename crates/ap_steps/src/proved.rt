@@ -21,7 +21,7 @@ use crate::walk::{add_steps, place_pieces};
 use crate::writers::Writer;
 use ap_answers::answers::write_shown;
 use ap_answers::bindings::shown_bindings;
-use ap_answers::speller::{Speller, VarTexts};
+use ap_answers::speller::{NameTexts, Speller, VarTexts};
 use ap_defs::goals::{Local, Program, Query};
 use ap_defs::lists::{List, Text};
 use ap_defs::memory::Memory;
@@ -129,7 +129,7 @@ pub fn steps_of(
     } = spelt;
     let by = Speller {
         names: &names,
-        name_texts: name_words,
+        name_texts: NameTexts::Written(name_words),
         vars: &vars,
         var_texts: VarTexts::Written(var_words),
         constructors: program.signature.constructors.items(),

@@ -1,13 +1,12 @@
-use Rattle.std.proofs.Common.{◌≡◌, ◌<◌, ◌+◌, ◌*◌, ◌++◌, refl, ap, sym, ◌∙◌, arith}
+use Rattle.std.proofs.Common.{◌≡◌, ◌*◌, ◌++◌, ap, sym, ◌∙◌, arith}
 use Rattle.std.specs.Prelude.{reverse}
-use Rattle.ap_defs.specs.Printing.{barred, swaps_text, term_at, whole}
+use Rattle.ap_defs.specs.Printing.{barred, swaps_text, term_at}
 use Rattle.ap_defs.specs.Terms.{app, pair, term_of}
 use Rattle.ap_defs.specs.Unification.{size}
 use Rattle.ap_defs.specs.declared.terms.Term.{Term}
 use Rattle.ap_answers.specs.Places.{written_place}
 use Rattle.ap_answers.specs.Spelled.{spelling_in}
 use Rattle.ap_answers.specs.Writing.{closed_text, part_text, waiting_text}
-use Rattle.ap_answers.proofs.TextLemmas.{abs_goes_on}
 use Rattle.ap_answers.proofs.WritingLemmas.{leaf_written, less_behind, written_behind}
 use Rattle.ap_answers.proofs.text.write_part.Goals as goal
 use Rattle.ap_answers.proofs.text.write_part.Goals.{in-Unit+in_ok-write_unit-in-Unit, in-Name+in_ok-write_name_at-in-Name, in-Susp+in_ok-write_variable_at-in-Susp}

@@ -1,4 +1,4 @@
-use Rattle.std.proofs.Common.{◌≡◌, ◌≢◌, ◌≤◌, ◌+◌, ◌-◌, suc, length, refl, ◌∙◌, arith}
+use Rattle.std.proofs.Common.{◌≡◌, ◌≢◌, ◌≤◌, ◌+◌, ◌-◌, ◌++◌, ℕ, suc, List, length, take, refl, ap, ◌∙◌, arith}
 use Rattle.ap_answers.specs.Words.{knows}
 use Rattle.ap_answers.proofs.FreeLemmas.{first_few, first_then_rest, numbers_next}
 use Rattle.ap_answers.proofs.words.generated_numbers.Goals as goal
@@ -20,9 +20,13 @@ loop-i-init c =
     let limit = c.in-Some.limit in
     let below : tried ≤ length c.args.words.now = c.requires.free.1 in
     let both : tried + (limit - tried) ≡ c.args.count + length c.args.words.now = omega arith in
+    let made = c.extend_from_slice.new.self.items in
+    let first : made ≡ take c.args.count c.as_slice.result.now =
+    c.in_ok-extend_from_slice.ensures.items ∙ ap (λ (ks : List ℕ). ks ++ c.first_of.result.now) c.in_ok-numbers.ensures.items ∙ c.first_of.ensures
+    in
     record {
       all =
-          first_then_rest c.args.letter.now c.args.words.now c.args.count tried (tried + 1) (limit - tried) c.as_slice.result.now c.in_ok-numbers.numbers.items
-          (c.as_slice.ensures.value ∙ c.requires.free.0) both refl c.in_ok-numbers.ensures;
-      few = first_few c.args.count c.as_slice.result.now c.in_ok-numbers.numbers.items c.in_ok-numbers.ensures;
+          first_then_rest c.args.letter.now c.args.words.now c.args.count tried (tried + 1) (limit - tried) c.as_slice.result.now made
+          (c.as_slice.ensures.value ∙ c.requires.free.0) both refl first;
+      few = first_few c.args.count c.as_slice.result.now made first;
     }
