@@ -59,6 +59,6 @@ turns_of_turned program (goes ps) = turns_from_each program ps
 abbrev pub query_turns : Clauses → ℕ → NominalQuery → ℕ
 query_turns program d q = turns_from program (first_position d q)
 
--- a search that takes no more is short
+-- a search that takes no more is never given up
 abbrev pub few_turns : ℕ
-few_turns = 16384
+few_turns = 2048

@@ -1,6 +1,6 @@
 //! Whole searches.
 
-ghost use Rattle.std.specs.Prelude.{◌≡◌, ◌<◌, ◌^◌, ◌++◌, ◌∷◌, [], false, true, None, Some, IfOk, IfSome, OnOk, length, map};
+ghost use Rattle.std.specs.Prelude.{◌≡◌, ◌<◌, ◌≤◌, ◌^◌, ◌++◌, ◌∷◌, [], false, true, None, Some, IfOk, IfSome, OnOk, length, map};
 ghost use Rattle.ap_defs.specs.Answers.{out_of, outs_of};
 ghost use Rattle.ap_defs.specs.Goals.{goal_of, program_in, query_of};
 ghost use Rattle.ap_defs.specs.Renaming.{IsGoalBelow, rename_goal};
@@ -42,8 +42,11 @@ pub enum Paths {
     Left,
 }
 
-// A search of so many turns is over in some milliseconds, sooner than several workers share it out.
-const FEW_TURNS: u32 = 16_384;
+// A search of so many turns is over in less than a millisecond, sooner than several workers share it out.
+const FEW_TURNS: u64 = 2_048;
+
+// Workers go their ways again, so sharing pays where a search makes more turns than this for each choice of its longest way.
+const TURNS_A_CHOICE: u64 = 8;
 
 /// The machine where the search of a query to a depth begins.
 pub fn first_machine<'a>(
@@ -260,8 +263,16 @@ pub fn outputs_from<'a>(
     Ok(outs)
 }
 
-/// The outputs from a machine, as `outputs_from`, where the search takes few turns: none says that it takes
-/// more.
+/// Whether a search is wide that made so many turns, where its longest way has so many choices: it made many turns, and
+/// many for each of these.
+fn is_wide(turns: u64, longest: usize) -> bool
+    ensures { result ≡ true → few_turns ≤ turns }
+{
+    turns >= FEW_TURNS && turns / TURNS_A_CHOICE > longest as u64
+}
+
+/// The outputs from a machine, as `outputs_from`, as long as the search isn't wide: none says that it is, and
+/// that it takes more than few turns.
 fn outputs_soon<'a>(
     alloc: Global,
     clauses: &'a [Predicate<'a>],
@@ -282,9 +293,11 @@ fn outputs_soon<'a>(
     let mut points = Vec::new(alloc);
     let mut machine = first;
     let mut wanted = limit;
-    'searching: for _ in 0..FEW_TURNS {
-        if !is_wanting(wanted) {
-            return Ok(Some(outs));
+    let mut turns: u64 = 0;
+    let mut longest = 0;
+    'searching: while is_wanting(wanted) {
+        if is_wide(turns, longest) {
+            return Ok(None);
         }
         if !go_on(
             alloc,
@@ -298,8 +311,10 @@ fn outputs_soon<'a>(
         )? {
             return Ok(Some(outs));
         }
+        turns = turns.saturating_add(1);
+        longest = machine.path.len().max(longest);
     }
-    Ok(None)
+    Ok(Some(outs))
 }
 
 /// The outputs from where the search of a query begins, as `outputs_of_query`, where it takes few turns: none

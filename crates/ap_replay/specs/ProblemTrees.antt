@@ -56,17 +56,17 @@ abbrev pub choices_below : Problem → List ℕ → ℕ
 choices_below p path = choices_below_of (clauses_in p) p.depth (query_in p) path
 
 -- So many choices may be made by one worker alone where so many twos divide the length of the way. Where all answers are wanted it is 16,
--- with each of the first three twos eight times as many, and with each further one four times as many: so all bounds on the way are
+-- with each of the first three twos sixteen times as many, and with each further one four times as many: so all bounds on the way are
 -- together at most twice the greatest of them, and what is made again on the way costs less. Where not all are wanted, the search may end
 -- while what is beside the way has no end: it is 32, with each of the first five twos four times as many, and then twice as many.
 abbrev pub bound_by : Limit → ℕ → ℕ
-bound_by limits.All twos = 16 * 2 ^ (2 * twos + min twos 3)
+bound_by limits.All twos = 16 * 2 ^ (2 * (twos + min twos 3))
 bound_by (limits.First n) twos = 32 * 2 ^ (twos + min twos 5)
 
 -- and after n on the way: none at the root
 abbrev pub bound_after : Limit → ℕ → ℕ
 bound_after limit zero = 0
-bound_after limit (suc n) = bound_by limit (min (trailing_zeros w64 (suc n)) 28)
+bound_after limit (suc n) = bound_by limit (min (trailing_zeros w64 (suc n)) 26)
 
 abbrev pub bound_at : Limit → List ℕ → ℕ
 bound_at limit path = bound_after limit (length path)

@@ -41,11 +41,11 @@ fn kids_at(alloc: Global, node: &Node) -> Result<Option<Vec<u32>>, Memory>
 
 /// How many choices a worker alone may make where so many twos divide the length of the path.
 fn bound_of_twos(limit: Limit, twos: u32) -> u64
-    requires { twos ≤ 28 }
+    requires { twos ≤ 26 }
     ensures { result ≡ bound_by limit twos }
 {
     match limit {
-        Limit::All => 16 << (2 * twos + twos.min(3)),
+        Limit::All => 16 << (2 * (twos + twos.min(3))),
         Limit::First(_) => 32 << (twos + twos.min(5)),
     }
 }
@@ -58,7 +58,7 @@ fn bound_of(limit: Limit, path: &Path) -> u64
     if way == 0 {
         return 0;
     }
-    bound_of_twos(limit, way.trailing_zeros().min(28))
+    bound_of_twos(limit, way.trailing_zeros().min(26))
 }
 
 /// The answer to a visit that found these outputs.

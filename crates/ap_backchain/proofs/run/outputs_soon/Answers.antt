@@ -27,7 +27,7 @@ returns-then-not-branch-clause-outs c =
     ∙ c.in_ok-go_on.ensures.left in
     nothing_left c.go_on.new.wanted kept (outs_of c.go_on.new.outs.items) all
     (turn_keeps program locals kept c.searching.wanted c.go_on.new.wanted p ps [] (outs_of c.searching.outs.items) (outs_of c.go_on.new.outs.items) all
-    (c.is_wanting.ensures.yes c.if-not-is_wanting.false) left c.in_ok-go_on.ensures.wanted c.in_ok-go_on.ensures.outs c.searching.invariant.all)
+    (c.is_wanting.ensures.yes c.searching-test.true) left c.in_ok-go_on.ensures.wanted c.in_ok-go_on.ensures.outs c.searching.invariant.all)
 
 pub searching-preserved : goal.searching-preserved
 searching-preserved c =
@@ -38,33 +38,44 @@ searching-preserved c =
       all = turn_keeps program locals kept c.searching.wanted c.go_on.new.wanted (position_of c.searching.machine) (pending_positions c.searching.machine c.searching.points)
           (positions_with true c.go_on.new.machine c.go_on.new.points)
           (outs_of c.searching.outs.items) (outs_of c.go_on.new.outs.items) (map kept (part c.args.limit (outs_from program locals (position_of c.args.first))))
-          (c.is_wanting.ensures.yes c.if-not-is_wanting.false)
+          (c.is_wanting.ensures.yes c.searching-test.true)
           (ap (λ b. positions_with b c.go_on.new.machine c.go_on.new.points) (sym c.if-not-branch.false) ∙ c.in_ok-go_on.ensures.left)
           c.in_ok-go_on.ensures.wanted c.in_ok-go_on.ensures.outs c.searching.invariant.all;
       points = c.in_ok-go_on.ensures.points;
-      count = (let fewer = turn_lessens program locals kept (position_of c.searching.machine) (pending_positions c.searching.machine c.searching.points) (positions_with true c.go_on.new.machine c.go_on.new.points)
-          (ap (λ b. positions_with b c.go_on.new.machine c.go_on.new.points) (sym c.if-not-branch.false) ∙ c.in_ok-go_on.ensures.left) in let count = c.searching.invariant.count in omega (arith, fewer, count));
+      count =
+          (let fewer = turn_lessens program locals kept (position_of c.searching.machine) (pending_positions c.searching.machine c.searching.points) (positions_with true c.go_on.new.machine c.go_on.new.points)
+          (ap (λ b. positions_with b c.go_on.new.machine c.go_on.new.points) (sym c.if-not-branch.false) ∙ c.in_ok-go_on.ensures.left) in
+          let count = c.searching.invariant.count in
+          let more = c.saturating_add-turns.ensures in
+          omega (arith, fewer, count, more));
     }
 
 -- no more answers are wanted
-pub returns-then-not-is_wanting-clause-outs : goal.returns-then-not-is_wanting-clause-outs
-returns-then-not-is_wanting-clause-outs c =
+pub returns-clause-outs : goal.returns-clause-outs
+returns-clause-outs c =
     let program = program_in c.args.clauses.now in
     let locals = locals_of c.args.locals.now in
     let kept = kept_out c.args.paths in
     nothing_wanted c.searching.wanted kept (outs_of c.searching.outs.items)
     (outs_from_each program locals (positions_with true c.searching.machine c.searching.points))
     (map kept (part c.args.limit (outs_from program locals (position_of c.args.first))))
-    (c.is_wanting.ensures.no c.if-not-is_wanting.true) c.searching.invariant.all
+    (c.is_wanting.ensures.no c.searching-test.false) c.searching.invariant.all
 
 -- what is left takes one turn at least
-pub returns-clause-many : goal.returns-clause-many
-returns-clause-many c =
+pub returns-then-is_wide-clause-many : goal.returns-then-is_wide-clause-many
+returns-then-is_wide-clause-many c =
     λ none.
     let program = program_in c.args.clauses.now in
     let locals = locals_of c.args.locals.now in
     let p = position_of c.searching.machine in
     let ps = pending_positions c.searching.machine c.searching.points in
     let some = turn_lessens program locals (kept_out c.args.paths) p ps (positions_followed (turned program locals p) ps) refl in
+    let made = c.is_wide.ensures c.if-is_wide.true in
     let count = c.searching.invariant.count in
-    omega (arith, some, count)
+    omega (arith, some, made, count)
+
+pub searching-smaller : goal.searching-smaller
+searching-smaller c =
+    turn_lessens (program_in c.args.clauses.now) (locals_of c.args.locals.now) (kept_out c.args.paths) (position_of c.searching.machine) (pending_positions c.searching.machine c.searching.points)
+    (positions_with true c.go_on.new.machine c.go_on.new.points)
+    (ap (λ b. positions_with b c.go_on.new.machine c.go_on.new.points) (sym c.if-not-branch.false) ∙ c.in_ok-go_on.ensures.left)

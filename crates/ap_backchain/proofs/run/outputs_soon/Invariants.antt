@@ -16,5 +16,8 @@ invariant-searching l = record {
   all : outs_of l.outs.items ++ map (kept_out l.paths) (part l.wanted (outs_from_each (program_in l.clauses) (locals_of l.locals) (position_of l.machine ∷ pending_positions l.machine l.points)))
       ≡ map (kept_out l.paths) (part l.fn.limit (outs_from (program_in l.clauses) (locals_of l.locals) (position_of l.fn.first)));
   points : HasPoints l.machine l.points;
-  count : l.counter + turns_from_each (program_in l.clauses) (position_of l.machine ∷ pending_positions l.machine l.points) ≤ turns_from_each (program_in l.clauses) (position_of l.fn.first ∷ []);
+  count : l.turns + turns_from_each (program_in l.clauses) (position_of l.machine ∷ pending_positions l.machine l.points) ≤ turns_from_each (program_in l.clauses) (position_of l.fn.first ∷ []);
 }
+
+abbrev pub decreases-searching : goal.decreases-searching
+decreases-searching l = turns_from_each (program_in l.clauses) (position_of l.machine ∷ pending_positions l.machine l.points)
