@@ -42,10 +42,12 @@ pub enum Paths {
     Left,
 }
 
-// A search of so many turns is over in less than a millisecond, sooner than several workers share it out.
+// A search of so many turns is over in less than a millisecond, sooner than several workers share it
+// out.
 const FEW_TURNS: u64 = 2_048;
 
-// Workers go their ways again, so sharing pays where a search makes more turns than this for each choice of its longest way.
+// Workers go their ways again, so sharing pays only where a search makes more turns than this for each
+// choice of its longest way.
 const TURNS_A_CHOICE: u64 = 8;
 
 /// The machine where the search of a query to a depth begins.
@@ -263,8 +265,8 @@ pub fn outputs_from<'a>(
     Ok(outs)
 }
 
-/// Whether a search is wide that made so many turns, where its longest way has so many choices: it made many turns, and
-/// many for each of these.
+/// Whether a search is wide that made so many turns, where its longest way has so many choices: it made
+/// many turns, and many for each of these.
 fn is_wide(turns: u64, longest: usize) -> bool
     ensures { result ≡ true → few_turns ≤ turns }
 {
