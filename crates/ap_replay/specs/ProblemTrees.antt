@@ -55,12 +55,19 @@ choices_below_of program d (Some q) path = choices_at program d q path
 abbrev pub choices_below : Problem → List ℕ → ℕ
 choices_below p path = choices_below_of (clauses_in p) p.depth (query_in p) path
 
--- So many choices may be made by one worker alone where so many twos divide the length of the way. Where all answers are wanted it is 16,
--- with each of the first three twos sixteen times as many, and with each further one four times as many: so all bounds on the way are
--- together at most twice the greatest of them, and what is made again on the way costs less. Where not all are wanted, the search may end
--- while what is beside the way has no end: it is 32, with each of the first five twos four times as many, and then twice as many.
+-- So many choices may be made by one worker alone where so many twos divide the length of the way. Where all answers are wanted it is 8,
+-- 128, 2,048 and 65,536 for none, one, two and three twos, and with each further one four times as many: so all bounds on the way are
+-- together at most twice the greatest of them, and what is made again on the way costs less.
+abbrev pub bound_for_all : ℕ → ℕ
+bound_for_all zero = 8
+bound_for_all (suc zero) = 128
+bound_for_all (suc (suc zero)) = 2048
+bound_for_all twos = 1024 * 2 ^ (2 * twos)
+
+-- Where not all are wanted, the search may end while what is beside the way has no end: it is 32, with each of the first five twos four
+-- times as many, and then twice as many.
 abbrev pub bound_by : Limit → ℕ → ℕ
-bound_by limits.All twos = 16 * 2 ^ (2 * (twos + min twos 3))
+bound_by limits.All twos = bound_for_all twos
 bound_by (limits.First n) twos = 32 * 2 ^ (twos + min twos 5)
 
 -- and after n on the way: none at the root

@@ -6,6 +6,7 @@ ghost use Rattle.ap_backchain.specs.Branches.{IsBranchOf, path_of_branch};
 ghost use Rattle.ap_backchain.specs.Problems.{HasQuery};
 ghost use Rattle.ap_paths.specs.Entries as entries;
 ghost use Rattle.ap_paths.specs.Entries.{visit_of};
+ghost use Rattle.ap_replay.specs.ProblemTrees as trees;
 ghost use Rattle.ap_replay.specs.ProblemTrees.{bound_at, bound_by, kid_numbers, node_kids, problem_plan};
 
 use crate::replay::branch_at;
@@ -39,13 +40,25 @@ fn kids_at(alloc: Global, node: &Node) -> Result<Option<Vec<u32>>, Memory>
     }
 }
 
+/// How many choices a worker alone may make where all answers are wanted, and so many twos divide the length
+/// of the path.
+fn bound_for_all(twos: u32) -> u64
+    requires { twos ≤ 26 }
+    ensures { result ≡ trees.bound_for_all twos }
+{
+    if twos < 3 {
+        return 8 << (4 * twos);
+    }
+    1024 << (2 * twos)
+}
+
 /// How many choices a worker alone may make where so many twos divide the length of the path.
 fn bound_of_twos(limit: Limit, twos: u32) -> u64
     requires { twos ≤ 26 }
     ensures { result ≡ bound_by limit twos }
 {
     match limit {
-        Limit::All => 16 << (2 * (twos + twos.min(3))),
+        Limit::All => bound_for_all(twos),
         Limit::First(_) => 32 << (twos + twos.min(5)),
     }
 }
