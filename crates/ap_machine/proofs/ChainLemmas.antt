@@ -8,7 +8,7 @@ use Rattle.ap_defs.specs.Answers.{closed_term}
 use Rattle.ap_defs.specs.Resolution.{State}
 use Rattle.ap_defs.specs.Canonical.{canonical_term}
 use Rattle.ap_defs.specs.Substitution.{under}
-use Rattle.ap_defs.specs.Terms.{NominalTerm, act_term, susp, term_of}
+use Rattle.ap_defs.specs.Terms.{NominalTerm, susp, term_of}
 use Rattle.ap_defs.specs.declared.terms.Term.{Term}
 use Rattle.ap_defs.specs.declared.terms.Swap.{Swap}
 use Rattle.ap_defs.specs.declared.terms.Var.{Var}

@@ -1,10 +1,12 @@
 -- Terms with all bindings carried out and canonical lists, while they are made.
 use Rattle.std.specs.Prelude.{ℕ, ◌+◌, ◌*◌, List, [], ◌∷◌}
 use Rattle.ap_defs.specs.Canonical.{canonical_term}
+use Rattle.ap_defs.specs.Renaming.{rename_term}
+use Rattle.ap_defs.specs.Substitution.{under}
 use Rattle.ap_defs.specs.Terms.{NominalTerm, abs, act_term, app, pair, term_of}
 use Rattle.ap_defs.specs.declared.terms.Swap.{Swap}
 use Rattle.ap_defs.specs.Unification.{size}
-use Rattle.ap_store.specs.Views.{meaning_in}
+use Rattle.ap_store.specs.Views.{bindings_of, meaning_in}
 use Rattle.ap_store.specs.declared.store.Store.{Store}
 use Rattle.ap_machine.specs.declared.closing.Part.{Part}
 use Rattle.ap_machine.specs.declared.closing.Part.TheVariants as parts
@@ -47,3 +49,7 @@ rounds_work s (r ∷ rs) = round_work s r + rounds_work s rs
 -- what swappings make of a term, with canonical lists
 abbrev pub canonically_moved : List Swap → NominalTerm → NominalTerm
 canonically_moved p t = canonical_term (act_term p t)
+
+-- what a term whose identifiers are numbered from here on stands for, where no swappings wait on it
+abbrev pub plain_meaning : Store → ℕ → NominalTerm → NominalTerm
+plain_meaning s base t = under (bindings_of s) (act_term [] (rename_term base t))

@@ -65,7 +65,7 @@ fn typed(alloc: Global, store: &Store<'_>, x: Var) -> Result<Option<(Var, Ty)>, 
 fn typed_of(alloc: Global, store: &Store<'_>, vars: &[Var]) -> Result<Vec<(Var, Ty)>, Memory>
     ensures { IfOk result (λ v. map typed_var_of v.items ≡ typed_vars (kinds store.now) vars.now) }
 {
-    let mut all = Vec::new(alloc);
+    let mut all = Vec::with_capacity(alloc, vars.len())?;
     'typing: for x in vars {
         if let Some(one) = typed(alloc, store, *x)? {
             all.push(one)?;

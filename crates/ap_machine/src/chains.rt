@@ -303,7 +303,7 @@ fn closed_each(
     requires { none.now ≡ [] }
     ensures { IfOk result (λ v. map term_of v.items ≡ closed_vars (state_in store.now) vars.now) }
 {
-    let mut terms = Vec::new(alloc);
+    let mut terms = Vec::with_capacity(alloc, vars.len())?;
     'closing: for x in vars {
         terms.push(closed_var(alloc, store, none, *x)?)?;
     }

@@ -32,7 +32,7 @@ pub fn vars_of_locals(alloc: Global, base: u64, locals: &[Local]) -> Result<Vec<
     requires { base + length locals.now < 2 ^ 64 }
     ensures { IfOk result (λ v. v.items ≡ local_vars base (locals_of locals.now)) }
 {
-    let mut all = Vec::new(alloc);
+    let mut all = Vec::with_capacity(alloc, locals.len())?;
     add_vars_of_locals(&mut all, base, locals)?;
     Ok(all)
 }

@@ -1,5 +1,5 @@
 // The report on the queries of a program.
-ghost use Rattle.std.specs.Prelude.{◌≡◌, ◌-◌, IfOk, IfSome, length};
+ghost use Rattle.std.specs.Prelude.{◌≡◌, ◌-◌, ◌++◌, IfOk, IfSome, OnOk, length};
 ghost use Rattle.ap_defs.specs.Goals.{program_of};
 ghost use Rattle.ap_answers.specs.Words.{IsTaken};
 ghost use Rattle.ap_backchain.specs.Problems.{HasQuery};
@@ -129,6 +129,18 @@ fn report_query<'a, R: Threads + Wait + Sync, G: Gate>(
     }
 }
 
+/// A report is put behind those before it, of which the first is not copied.
+fn add_report(bytes: &mut Vec<u8>, report: Vec<u8>) -> Result<(), Memory>
+    ensures { OnOk result (bytes.new.items ≡ bytes.old.items ++ report.items) }
+{
+    if bytes.is_empty() {
+        *bytes = report;
+        return Ok(());
+    }
+    bytes.extend_from_slice(&report)?;
+    Ok(())
+}
+
 /// The report on each query of the program, to a depth, one after the other: the lines of its outputs up
 /// to the last answer that is wanted.
 pub(crate) fn report_program<R: Threads + Wait + Sync, G: Gate>(
@@ -157,7 +169,7 @@ pub(crate) fn report_program<R: Threads + Wait + Sync, G: Gate>(
         let report = report_query(
             rt, alloc, gate, workers, limit, last, &taken, &problem, &mut room,
         )?;
-        bytes.extend_from_slice(&report)?;
+        add_report(&mut bytes, report)?;
     }
     Ok(bytes)
 }

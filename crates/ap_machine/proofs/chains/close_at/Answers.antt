@@ -1,4 +1,4 @@
-use Rattle.std.proofs.Common.{◌≡◌, ap}
+use Rattle.std.proofs.Common.{ap}
 use Rattle.std.proofs.Math.Seq.{map-set_same}
 use Rattle.ap_machine.specs.declared.chains.ToClose.{ToClose}
 use Rattle.ap_machine.proofs.chains.close_at.Goals as goal

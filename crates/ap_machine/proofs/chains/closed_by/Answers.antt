@@ -1,11 +1,9 @@
-use Rattle.std.proofs.Common.{◌≡◌, [], ◌∙◌, subst}
-use Rattle.std.specs.Prelude.{IfSome, Some}
+use Rattle.std.proofs.Common.{◌≡◌, ◌∙◌}
+use Rattle.std.specs.Prelude.{Some}
 use Rattle.std.proofs.lemmas.Result.{IfOk-weaker}
 use Rattle.ap_defs.specs.Terms.{susp, term_of}
 use Rattle.ap_store.specs.Views.{raw_bound}
-use Rattle.ap_machine.specs.Closed.{canonically_moved}
 use Rattle.ap_machine.specs.Views.{state_in}
-use Rattle.ap_machine.specs.declared.chains.Waiting.{Waiting}
 use Rattle.ap_machine.proofs.ChainLemmas.{link_closes}
 use Rattle.ap_machine.proofs.chains.closed_by.Goals as goal
 

@@ -11,5 +11,5 @@ loop-place-preserved g c =
     let report = c.in_ok-report.report.items in
     let made : report ≡ query_report program c.args.depth c.args.limit (place + 1 - 1) =
     subst (λ d. report ≡ query_report program d c.args.limit (place + 1 - 1)) c.get.ensures.number c.in_ok-report.ensures in
-    one_more program c.args.depth c.args.limit place c.loop-place.bytes.items c.deref.result.now c.extend_from_slice.new.self.items
-    (search rules) c.in_ok-extend_from_slice.ensures.items (rw c.deref.ensures.value made) c.loop-place.invariant
+    one_more program c.args.depth c.args.limit place c.loop-place.bytes.items report c.add_report.new.bytes.items
+    (search rules) c.in_ok-add_report.ensures made c.loop-place.invariant
