@@ -1,12 +1,18 @@
-use Rattle.std.proofs.Common.{[], ◌∷◌, ◌∙◌, List, ap, map, refl, reverse, subst, sym}
+use Rattle.std.proofs.Common.{[], ◌≡◌, ◌∷◌, ◌∙◌, List, ap, length, map, refl, reverse, subst, sym, true}
+use Rattle.std.proofs.lemmas.List.{length-map, length-reverse}
 use Rattle.ap_defs.specs.Substitution.{Equation}
+use Rattle.ap_defs.specs.Unification.{next}
 use Rattle.ap_fresh.proofs.StepLemmas.{on_ok}
+use Rattle.ap_perm.specs.Closures.{closure_term}
 use Rattle.ap_store.specs.Views.{bindings_of, present}
 use Rattle.ap_rules.proofs.WorkLemmas.{go_on_on, go_same, if_ok, pairs_below_front, pairs_below_last, put_last}
+use Rattle.ap_unify.proofs.SolvedLemmas.{awaits_first, needless_way, solved_on, stage_length}
+use Rattle.ap_unify.proofs.WellLemmas.{well}
 use Rattle.ap_unify.proofs.runs.advance.Goals as goal
 use Rattle.ap_unify.specs.Parts.{LeadsTo}
+use Rattle.ap_unify.specs.Solved.{AreSolved}
 use Rattle.ap_rules.specs.Runs.{stage_under}
-use Rattle.ap_rules.specs.Work.{ArePairsBelow, pair_equation, problems_met, progress_if, work_stage}
+use Rattle.ap_rules.specs.Work.{ArePairsBelow, equations_left, pair_equation, problems_met, progress_if, work_stage}
 use Rattle.ap_rules.specs.declared.pairs.ClosurePair.{ClosurePair}
 use Rattle.ap_rules.specs.declared.pairs.Work.{Work}
 

@@ -33,6 +33,7 @@ rewriting-preserved c =
       leads = λ p h. c.rewriting.invariant.leads p (inr (then_reaches before s p e h));
       pairs = subst (λ n. ArePairsBelow n c.advance.new.work.equations.items) (sym c.in_ok-advance.ensures.goes_on.next) (c.in_ok-advance.ensures.goes_on.pairs c.rewriting.invariant.pairs);
       settled = c.in_ok-advance.ensures.settled;
+      solved = c.in_ok-advance.ensures.solved c.if-not-branch.false;
       goes_on = go_on_on a b d c.args.work.now c.rewriting.work c.advance.new.work c.rewriting.invariant.goes_on c.in_ok-advance.ensures.goes_on;
       past = goes_on_on (versions c.args.store.now) (versions c.rewriting.store) (versions c.advance.new.store) c.rewriting.invariant.past c.advance.ensures.past;
       kinds = c.advance.ensures.kinds ∙ c.rewriting.invariant.kinds;
