@@ -48,10 +48,9 @@ pub front_none : (es : List Equation) (j : ℕ) → length es ≤ j → front j 
 front_none [] j h = refl
 front_none (e ∷ es) j h = ap (λ b. if b then [] else (e ∷ front j es)) (lt_yes (length es) j (omega arith))
 
--- before the equations behind it, one is alone in front
-pub front_one : (e : Equation) (es : List Equation) → front (length es) (e ∷ es) ≡ e ∷ []
-front_one e es =
-    ap (λ b. if b then [] else (e ∷ front (length es) es)) (lt_no (length es) (length es) (omega arith)) ∙ ap (λ fs. e ∷ fs) (front_none es (length es) (omega arith))
+-- an equation is in front of those behind it
+pub front_first : (j : ℕ) (e : Equation) (es : List Equation) → j ≤ length es → front j (e ∷ es) ≡ e ∷ front j es
+front_first j e es h = ap (λ b. if b then [] else (e ∷ front j es)) (lt_no (length es) j h)
 
 module _ (d : Context) (s : Substitution) where
   put_Equates : (x : Var) (v : NominalTerm) → Equal d (s x) (applied s v) → (es : List Equation) → Equates d s es ↔ Equates d s (map (put_equation x v) es)

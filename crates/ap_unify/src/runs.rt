@@ -8,7 +8,7 @@ ghost use Rattle.ap_unify.specs.Finishing.{EndsAs};
 ghost use Rattle.ap_unify.specs.Lists.{renamed_terms_in};
 ghost use Rattle.ap_unify.specs.Parts.{AreBelowBoth, AreMarksTrue, LeadsTo, Reaches, parts_equation, stage_with};
 ghost use Rattle.ap_unify.specs.Settled.{AreSettled};
-ghost use Rattle.ap_unify.specs.Solved.{AreSolved};
+ghost use Rattle.ap_unify.specs.Solved.{AreSolved, AreSolvedAfter};
 ghost use Rattle.ap_equations.specs.Plain.{plain_term};
 ghost use Rattle.ap_rules.specs.Runs.{paired, stage_under};
 ghost use Rattle.ap_rules.specs.Work.{ArePairsBelow, GoOn, IsPairBelow, ending_if, equations_left, pair_equation, problems_met, progress_if, work_stage};
@@ -17,7 +17,7 @@ use crate::fronts::{Front, Way};
 use crate::moved_runs::along_closures;
 use crate::parts::Ahead;
 use crate::settled::Settled;
-use crate::solved::{Solved, await_some, is_known, take_solved};
+use crate::solved::{Solved, take_solved};
 use crate::terms::Terms;
 use crate::ways::{next_way, way_unless_settled};
 use ap_defs::memory::Memory;
@@ -99,14 +99,19 @@ fn advance_by<'a>(
     store: &mut Store<'a>,
     work: &mut Work<'a>,
     settled: &mut Settled,
+    solved: &mut Solved,
     first: ClosurePair<'a>,
 ) -> Result<bool, Memory>
     requires below { IsPairBelow (present store.old).next first }
     requires settled { AreSettled (bindings_of store.old) settled.old }
+    requires solved { AreSolved (stage_under (bindings_of store.old)
+        (pair_equation first ∷ equations_left work.old) (problems_met work.old)) solved.old }
     ensures stage { IfOk result (λ goes_on. LeadsTo (stage_under (bindings_of store.old)
         (pair_equation first.entry ∷ equations_left work.old) (problems_met work.old))
         (progress_if goes_on (work_stage (bindings_of store.new) work.new))) }
     ensures settled { OnOk result (AreSettled (bindings_of store.new) settled.new) }
+    ensures solved { IfOk result (λ goes_on. AreSolvedAfter
+        (progress_if goes_on (work_stage (bindings_of store.new) work.new)) solved.new) }
     ensures goes_on { OnOk result (GoOn (present store.old) work.old (present store.new) work.new) }
     ensures past { IsPrefixOf (versions store.old) (versions store.new) }
     ensures kinds { kinds store.new ≡ kinds store.old }
@@ -117,11 +122,11 @@ fn advance_by<'a>(
         (Some(left), Some(right)) => {
             along_unless_settled(alloc, store, work, settled, PlainPair { left, right })
         },
-        _ => along_closures(alloc, store, work, first),
+        _ => along_closures(alloc, store, work, solved, first),
     }
 }
 
-/// One or several steps: false where there is no solution. Nothing is left of an equation that is known to be solved.
+/// One or several steps: false where there is no solution.
 fn advance<'a>(
     alloc: Global,
     store: &mut Store<'a>,
@@ -136,8 +141,8 @@ fn advance<'a>(
     ensures stage { IfOk result (λ goes_on. LeadsTo (work_stage (bindings_of store.old) work.old)
         (progress_if goes_on (work_stage (bindings_of store.new) work.new))) }
     ensures settled { OnOk result (AreSettled (bindings_of store.new) settled.new) }
-    ensures solved { IfOk result (λ goes_on. goes_on ≡ true →
-        AreSolved (work_stage (bindings_of store.new) work.new) solved.new) }
+    ensures solved { IfOk result (λ goes_on. AreSolvedAfter
+        (progress_if goes_on (work_stage (bindings_of store.new) work.new)) solved.new) }
     ensures goes_on { OnOk result (GoOn (present store.old) work.old (present store.new) work.new) }
     ensures past { IsPrefixOf (versions store.old) (versions store.new) }
     ensures kinds { kinds store.new ≡ kinds store.old }
@@ -146,11 +151,7 @@ fn advance<'a>(
     let Some(first) = work.equations.pop() else {
         return Ok(true);
     };
-    if is_known(solved, &first) {
-        return Ok(true);
-    }
-    await_some(alloc, solved, &first, work.equations.len())?;
-    advance_by(alloc, store, work, settled, first)
+    advance_by(alloc, store, work, settled, solved, first)
 }
 
 /// Rewrites equations from the first, until none is left or there is no solution.

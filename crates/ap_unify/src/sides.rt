@@ -111,13 +111,21 @@ fn count(side: &Side) -> usize {
     side.swaps.len().saturating_add(side.added.len())
 }
 
+/// The swappings that wait on a side, the first outermost. Memory is asked for once.
+pub fn waiting_swaps(alloc: Global, side: &Side) -> Result<Vec<Swap>, Memory>
+    ensures { IfOk result (λ swaps. swaps.items ≡ waiting side.now) }
+{
+    let mut swaps = Vec::with_capacity(alloc, count(side))?;
+    put_waiting_swaps(&mut swaps, side)?;
+    Ok(swaps)
+}
+
 /// The closure of a part on which swappings wait. Memory is asked for once.
 pub fn moved_closure<'a>(alloc: Global, side: &Side, p: Plain<'a>) -> Result<Closure<'a>, Memory>
     ensures { IfOk result (λ c. closure_term c
         ≡ act_term (waiting side.now) (plain_term p.entry)) }
 {
-    let mut swaps = Vec::with_capacity(alloc, count(side))?;
-    put_waiting_swaps(&mut swaps, side)?;
+    let swaps = waiting_swaps(alloc, side)?;
     Ok(Closure {
         swaps,
         base: p.base,

@@ -1,20 +1,21 @@
-//! Equations of two suspensions that were solved in this run, so that nothing is left of them, whatever swappings wait.
+//! Equations of two suspensions that were solved in this run, so that nothing is left of them.
 
-ghost use Rattle.std.specs.Prelude.{◌≡◌, ◌≤◌, ◌∷◌, ◌++◌, [], true, IfOk, IfSome, OnOk, length};
+ghost use Rattle.std.specs.Prelude.{◌≡◌, ◌≤◌, ◌∷◌, ◌++◌, [], true, IfOk, OnOk, length};
+ghost use Rattle.ap_defs.specs.Substitution.{◌≐◌};
 ghost use Rattle.ap_defs.specs.Terms.{act_term, susp};
 ghost use Rattle.ap_defs.specs.Unification.{Stage};
-ghost use Rattle.ap_perm.specs.Closures.{closure_term};
-ghost use Rattle.ap_unify.specs.Needless.{Awaits, Follows};
-ghost use Rattle.ap_unify.specs.Solved.{AllKnown, AreSolved, IsKnown};
+ghost use Rattle.ap_unify.specs.Moved.{moved_equation, waiting};
+ghost use Rattle.ap_unify.specs.Solved.{AllKnown, AreSolved, IsSolved, IsSolvedBefore, suspensions_equation};
 
+use crate::settled::variable_of;
+use crate::sides::{Side, Sides, waiting_swaps};
 use ap_defs::memory::Memory;
-use ap_defs::terms::{Swap, Term, Var};
-use ap_perm::closures::Closure;
-use ap_rules::pairs::ClosurePair;
+use ap_defs::terms::{Swap, Var};
+use ap_equations::plain::PlainPair;
 use std::alloc::Global;
 use std::collections::BTreeMap;
 
-/// Of so many equations that are not known one is kept.
+/// Of so many equations that are not known one is noted.
 const ONE_IN: u64 = 16;
 
 /// Two variables, and the swappings that wait on each.
@@ -33,7 +34,7 @@ pub struct Awaited {
     pub behind: usize,
 }
 
-/// Suspensions whose equations are solved, where the last ones of two variables stand among them, those whose equations
+/// Suspensions whose equations are solved, the place of the last ones of two variables among them, those whose equations
 /// are being solved, and how many equations were met that were not known.
 #[derive(Drop)]
 pub struct Solved {
@@ -60,26 +61,6 @@ impl Solved {
     }
 }
 
-/// The variable of which a closure is a suspension, if its term has no swappings of its own.
-fn variable_at(c: &Closure<'_>) -> Option<Var>
-    ensures { IfSome result (λ x. closure_term c.now ≡ act_term c.now.swaps.items (susp [] x)) }
-{
-    match c.term {
-        Term::Susp(q, x) => {
-            if q.items().is_empty() {
-                // `end` fits in a u64, so the sum below it does.
-                let _end = c.end;
-                Some(Var {
-                    num: c.base + x.num,
-                })
-            } else {
-                None
-            }
-        }
-        _ => None,
-    }
-}
-
 /// Whether two lists of swappings are one.
 fn are_one(p: &[Swap], q: &[Swap]) -> bool
     ensures { result ≡ true → p.now ≡ q.now }
@@ -87,50 +68,71 @@ fn are_one(p: &[Swap], q: &[Swap]) -> bool
     p == q
 }
 
-/// Whether a closure is a variable on which these swappings wait.
-fn is_suspension(swaps: &[Swap], x: Var, c: &Closure<'_>) -> bool
-    ensures { result ≡ true → closure_term c.now ≡ act_term swaps.now (susp [] x) }
+/// Whether the swappings that wait on a side are those of a list.
+fn is_waiting(alloc: Global, side: &Side, swaps: &[Swap]) -> Result<bool, Memory>
+    ensures { IfOk result (λ same. same ≡ true → waiting side.now ≡ swaps.now) }
 {
-    match variable_at(c) {
-        Some(y) => x == y && are_one(swaps, &c.swaps),
-        None => false,
+    let waiting = waiting_swaps(alloc, side)?;
+    Ok(are_one(&waiting, swaps))
+}
+
+/// Whether two suspensions are these variables with the swappings that wait on the sides.
+fn are_these(
+    alloc: Global,
+    e: &Suspensions,
+    sides: &Sides,
+    x: Var,
+    y: Var,
+) -> Result<bool, Memory>
+    ensures { IfOk result (λ same. same ≡ true → suspensions_equation e.now
+        ≡ (act_term (waiting sides.now.left) (susp [] x)
+        ≐ act_term (waiting sides.now.right) (susp [] y))) }
+{
+    if e.x != x || e.y != y {
+        return Ok(false);
     }
+    if !is_waiting(alloc, &sides.left, &e.left)? {
+        return Ok(false);
+    }
+    is_waiting(alloc, &sides.right, &e.right)
 }
 
-/// Whether two closures are these suspensions.
-fn are_suspensions(e: &Suspensions, pair: &ClosurePair<'_>) -> bool
-    ensures { (r : Stage) → result ≡ true → IsKnown r e.now → Follows r.bindings r.problems
-        (closure_term pair.now.left) (closure_term pair.now.right) }
-{
-    is_suspension(&e.left, e.x, &pair.left) && is_suspension(&e.right, e.y, &pair.right)
-}
-
-/// Whether two closures are suspensions that stand at a place among those that are known.
-fn is_at(known: &[Suspensions], place: usize, pair: &ClosurePair<'_>) -> bool
-    ensures { (r : Stage) → result ≡ true → AllKnown r known.now → Follows r.bindings r.problems
-        (closure_term pair.now.left) (closure_term pair.now.right) }
+/// Whether the equation of two variables with the swappings that wait on the sides stands at a place of those that are
+/// solved.
+fn is_at(
+    alloc: Global,
+    known: &[Suspensions],
+    place: usize,
+    sides: &Sides,
+    x: Var,
+    y: Var,
+) -> Result<bool, Memory>
+    ensures { IfOk result (λ same. (r : Stage) → same ≡ true → AllKnown r known.now →
+        IsSolved r (act_term (waiting sides.now.left) (susp [] x)
+        ≐ act_term (waiting sides.now.right) (susp [] y))) }
 {
     if place < known.len() {
-        are_suspensions(&known[place], pair)
+        are_these(alloc, &known[place], sides, x, y)
     } else {
-        false
+        Ok(false)
     }
 }
 
-/// Whether two closures are suspensions whose equation is known to be solved.
-pub fn is_known(solved: &Solved, pair: &ClosurePair<'_>) -> bool
-    ensures { (r : Stage) → result ≡ true → AreSolved r solved.now → Follows r.bindings r.problems
-        (closure_term pair.now.left) (closure_term pair.now.right) }
+/// Whether the equation of two variables with the swappings that wait on the sides is known to be solved.
+fn is_known(
+    alloc: Global,
+    solved: &Solved,
+    sides: &Sides,
+    x: Var,
+    y: Var,
+) -> Result<bool, Memory>
+    ensures { IfOk result (λ same. (r : Stage) → same ≡ true → AreSolved r solved.now →
+        IsSolved r (act_term (waiting sides.now.left) (susp [] x)
+        ≐ act_term (waiting sides.now.right) (susp [] y))) }
 {
-    if solved.known.is_empty() {
-        return false;
-    }
-    match (variable_at(&pair.left), variable_at(&pair.right)) {
-        (Some(x), Some(y)) => match solved.places.get(&(x.num, y.num)) {
-            Some(place) => is_at(&solved.known, *place, pair),
-            None => false,
-        },
-        _ => false,
+    match solved.places.get(&(x.num, y.num)) {
+        Some(place) => is_at(alloc, &solved.known, *place, sides, x, y),
+        None => Ok(false),
     }
 }
 
@@ -162,46 +164,76 @@ pub fn take_solved(solved: &mut Solved, left: usize) -> Result<(), Memory>
     Ok(())
 }
 
-/// Awaits the end of an equation of two suspensions, before those that are behind it.
-fn await_both(
+/// Notes the equation of two variables with the swappings that wait on the sides, before so many others.
+fn note(
     alloc: Global,
     solved: &mut Solved,
-    pair: &ClosurePair<'_>,
+    sides: &Sides,
     x: Var,
     y: Var,
     behind: usize,
 ) -> Result<(), Memory>
-    requires left { closure_term pair.now.left ≡ act_term pair.now.left.swaps.items (susp [] x) }
-    requires right { closure_term pair.now.right ≡ act_term pair.now.right.swaps.items (susp [] y) }
-    ensures { OnOk result ((r : Stage) → AreSolved r solved.old → Awaits r behind
-        (closure_term pair.now.left) (closure_term pair.now.right) → AreSolved r solved.new) }
+    ensures { OnOk result ((r : Stage) → AreSolved r solved.old → IsSolvedBefore r behind
+        (act_term (waiting sides.now.left) (susp [] x)
+        ≐ act_term (waiting sides.now.right) (susp [] y)) → AreSolved r solved.new) }
 {
-    let left = pair.left.swaps.to_vec(alloc)?;
-    let right = pair.right.swaps.to_vec(alloc)?;
+    let left = waiting_swaps(alloc, &sides.left)?;
+    let right = waiting_swaps(alloc, &sides.right)?;
     let pair = Suspensions { left, x, right, y };
     solved.awaited.push(Awaited { pair, behind })?;
     Ok(())
 }
 
-/// Awaits the end of one in so many equations of two suspensions, before those that are behind it.
-pub fn await_some(
+/// Counts an equation that is not known, and tells whether it is to be noted.
+fn is_turn(solved: &mut Solved) -> bool
+    ensures { (r : Stage) → AreSolved r solved.old → AreSolved r solved.new }
+{
+    solved.met = solved.met.wrapping_add(1);
+    solved.met % ONE_IN == 0
+}
+
+/// Whether the equation of two variables with the swappings that wait on the sides is known to be solved. If not, one in
+/// so many is noted.
+fn is_solved_for(
     alloc: Global,
     solved: &mut Solved,
-    pair: &ClosurePair<'_>,
+    sides: &Sides,
+    x: Var,
+    y: Var,
     behind: usize,
-) -> Result<(), Memory>
-    ensures { OnOk result ((r : Stage) → AreSolved r solved.old → Awaits r behind
-        (closure_term pair.now.left) (closure_term pair.now.right) → AreSolved r solved.new) }
+) -> Result<bool, Memory>
+    ensures known { IfOk result (λ same. (r : Stage) → same ≡ true → AreSolved r solved.old →
+        IsSolved r (act_term (waiting sides.now.left) (susp [] x)
+        ≐ act_term (waiting sides.now.right) (susp [] y))) }
+    ensures solved { OnOk result ((r : Stage) → AreSolved r solved.old → IsSolvedBefore r behind
+        (act_term (waiting sides.now.left) (susp [] x)
+        ≐ act_term (waiting sides.now.right) (susp [] y)) → AreSolved r solved.new) }
 {
-    match (variable_at(&pair.left), variable_at(&pair.right)) {
-        (Some(x), Some(y)) => {
-            solved.met = solved.met.wrapping_add(1);
-            if solved.met % ONE_IN == 0 {
-                await_both(alloc, solved, pair, x, y, behind)
-            } else {
-                Ok(())
-            }
-        }
-        _ => Ok(()),
+    if is_known(alloc, solved, sides, x, y)? {
+        return Ok(true);
+    }
+    if is_turn(solved) {
+        note(alloc, solved, sides, x, y, behind)?;
+    }
+    Ok(false)
+}
+
+/// Whether two parts are variables whose equation, with the swappings that wait on the sides, is known to be solved. If
+/// not, one in so many is noted, with how many equations are behind it.
+pub fn is_solved(
+    alloc: Global,
+    solved: &mut Solved,
+    sides: &Sides,
+    pair: PlainPair<'_>,
+    behind: usize,
+) -> Result<bool, Memory>
+    ensures known { IfOk result (λ same. (r : Stage) → same ≡ true → AreSolved r solved.old →
+        IsSolved r (moved_equation sides.now pair.entry)) }
+    ensures solved { OnOk result ((r : Stage) → AreSolved r solved.old →
+        IsSolvedBefore r behind (moved_equation sides.now pair.entry) → AreSolved r solved.new) }
+{
+    match (variable_of(pair.left), variable_of(pair.right)) {
+        (Some(x), Some(y)) => is_solved_for(alloc, solved, sides, x, y, behind),
+        _ => Ok(false),
     }
 }
