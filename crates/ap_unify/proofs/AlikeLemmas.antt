@@ -138,7 +138,9 @@ module _ (d : Context) (s : Substitution) where
 needless_alike : (t u : NominalTerm) (ps qs : List Problem) (bs : List Binding) → collected (reduce_all [] ps) ≡ collected (reduce_all [] qs) → IsNeedless t u qs bs → IsNeedless t u ps bs
 needless_alike t u ps qs bs h k = (
   (λ ds s a f. k.0 ds s a (alike_Freshens (listed_context ds) s ps qs h f)),
-  k.1, k.2, k.3,
+  k.1,
+  k.2,
+  k.3,
   alike_all ps qs h bs ∙ k.4 ∙ sym h,
 )
 

@@ -4,7 +4,7 @@ use Rattle.std.specs.Prelude.{if◌then◌else◌}
 use Rattle.std.proofs.lemmas.Bool.Decides.{nat_tests}
 use Rattle.ap_defs.specs.Freshness.{var_eq}
 use Rattle.ap_defs.specs.Occurrences.{without_var}
-use Rattle.ap_defs.specs.Substitution.{Binding, Equation, Problem, occurs, put, put_binding, put_equation, put_problem, ◌#◌, ◌:=◌, ◌≐◌}
+use Rattle.ap_defs.specs.Substitution.{Binding, Equation, Problem, occurs, put, put_equation, ◌≐◌}
 use Rattle.ap_defs.specs.Terms.{NominalTerm, abs, act_term, app, name, pair, susp, unit}
 use Rattle.ap_defs.specs.Unification.{Progress, Rule, Stage, apply_rule, bind, clash, distinct_vars, done, enough, failed, has_var, next, replace, rule, size, size_of, step, step_of, steps_for, vars_of, vars_then}
 use Rattle.ap_defs.specs.declared.terms.Var.{Var}

@@ -1,19 +1,18 @@
 -- What is needless may be left out: the end gives the same.
-use Rattle.std.proofs.Common.{◌≡◌, ◌==◌, ◌||◌, Bool, ℕ, zero, suc, true, false, List, [], ◌∷◌, ◌++◌, inl, inr, map, refl, sym, subst, ap, ap₂, ◌∙◌, arith}
+use Rattle.std.proofs.Common.{◌≡◌, ◌==◌, ◌||◌, Bool, ℕ, zero, suc, true, false, List, [], ◌∷◌, ◌++◌, inl, inr, map, refl, sym, subst, ap, ◌∙◌, arith}
 use Rattle.std.proofs.lemmas.Bool.Decides.{nat_tests}
 use Rattle.std.specs.Prelude.{if◌then◌else◌, nat_lt, Option, Some, None}
 use Rattle.ap_defs.specs.Freshness.{Conds, add_conds, both, cond_eq, has_cond, var_eq}
 use Rattle.ap_defs.specs.Permutations.{disagreement, inverse, name_eq, swap_of}
-use Rattle.ap_defs.specs.Substitution.{Binding, Equation, Problem, put_binding, put_equation, put_problem, under, ◌#◌, ◌:=◌, ◌≐◌}
+use Rattle.ap_defs.specs.Substitution.{Binding, Equation, Problem, put_equation, put_problem, under, ◌#◌, ◌:=◌, ◌≐◌}
 use Rattle.ap_defs.specs.Terms.{NominalTerm, abs, act_term, app, name, pair, susp, unit}
-use Rattle.ap_defs.specs.Unification.{Ending, Progress, Rule, Stage, Unified, apply_rule, bind, clash, done, ending, ending_after, failed, finish, fresh_for, next, problem_of, reduce_all, replace, rule, run, solved, steps_for, unified_under}
+use Rattle.ap_defs.specs.Unification.{Rule, Stage, Unified, apply_rule, bind, clash, ending, ending_after, finish, fresh_for, problem_of, reduce_all, replace, rule, run, steps_for, unified_under}
 use Rattle.ap_defs.specs.declared.terms.Cond.{Cond}
-use Rattle.ap_defs.specs.declared.terms.Name.{Name}
 use Rattle.ap_defs.specs.declared.terms.Swap.{Swap}
 use Rattle.ap_defs.specs.declared.terms.Var.{Var}
 use Rattle.ap_theory.specs.Contexts.{Context, Equal, Fresh, listed_context}
 use Rattle.ap_theory.specs.StatementsOnConditions.{collected, reduce_again}
-use Rattle.ap_theory.specs.Substitutions.{Agrees, Freshens, IsInstance, Meets, MeetsSome, Substitution, applied, substitution_of, variables}
+use Rattle.ap_theory.specs.Substitutions.{Freshens, IsInstance, Meets, MeetsSome, applied, substitution_of, variables}
 use Rattle.ap_theory.specs.Variables.{EachCond, IsIdempotent, IsUnbound}
 use Rattle.ap_theory.proofs.BooleanLemmas.{or_cases}
 use Rattle.ap_theory.proofs.ConditionSetLemmas.{add_conds_same, cond_eq_tells, has_cond-append}
@@ -115,12 +114,11 @@ module _ (cs : List Cond) where
         let differ : name_eq a b ≡ false = not_name a b h.0 in
         let sorts : (a.sort == b.sort) ≡ true = same_number a.sort b.sort h.1 in
         let more : Freshens kept variables qs = (subst (Fresh kept a) (sym (applied_variables u)) h.3, tt) in
-        let k = equal_behind t (act_term (swap_of a b ∷ []) u) h.2 es (ps ++ qs) (with_more ps qs e more) in
-        (
+        let k = equal_behind t (act_term (swap_of a b ∷ []) u) h.2 es (ps ++ qs) (with_more ps qs e more) in (
           k.0,
           by_replace (abs a t) (abs b u) es ps new qs
               (ap (λ v. if v then replace ((t ≐ u) ∷ []) [] else (if a.sort == b.sort then replace new qs else clash)) differ ∙ ap (λ v. if v then replace new qs else clash) sorts)
-          ∙ k.1,
+              ∙ k.1,
           k.2,
         )
     equal_behind (susp p x) (susp q y) h es ps e =

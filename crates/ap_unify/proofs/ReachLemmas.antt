@@ -102,10 +102,16 @@ module _ (s : List Binding) (t u v w : NominalTerm) (es : List Equation) (ps : L
   goes_by_one_rule : (p : Progress) → GoesTo (stage_under s ((t ≐ u) ∷ es) ps) p → GoesTo (stage_under s ((v ≐ w) ∷ es) ps) p
   goes_by_one_rule p (inl h) = inl (ap (λ r. apply_rule r (map (equation_under s) es) (map (problem_under s) ps) s) (sym e) ∙ h)
   goes_by_one_rule p (inr h) =
-      inr (h.0, (
-        (λ ds r a f. (rule_Holds (listed_context ds) r (under s v) (under s w)).1 (subst (RuleHolds (listed_context ds) r) e ((rule_Holds (listed_context ds) r (under s t) (under s u)).0 (h.1.0 ds r a f)))),
-        h.1.1, under_under s h.1.1 v, under_under s h.1.1 w, h.1.4,
-      ))
+      inr (
+        h.0,
+        (
+          (λ ds r a f. (rule_Holds (listed_context ds) r (under s v) (under s w)).1 (subst (RuleHolds (listed_context ds) r) e ((rule_Holds (listed_context ds) r (under s t) (under s u)).0 (h.1.0 ds r a f)))),
+          h.1.1,
+          under_under s h.1.1 v,
+          under_under s h.1.1 w,
+          h.1.4,
+        ),
+      )
 
   leads_by_one_rule : (p : Progress) → LeadsTo (stage_under s ((t ≐ u) ∷ es) ps) p → LeadsTo (stage_under s ((v ≐ w) ∷ es) ps) p
   leads_by_one_rule p (zero, q, h, a) = (0, q, goes_by_one_rule q h, a)

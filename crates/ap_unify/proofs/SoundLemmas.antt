@@ -4,18 +4,17 @@ use Rattle.std.proofs.lemmas.Bool.Decides.{nat_tests}
 use Rattle.std.proofs.lemmas.List.{length-append, length-map}
 use Rattle.std.specs.Prelude.{if◌then◌else◌, nat_lt}
 use Rattle.ap_defs.specs.Freshness.{Conds}
-use Rattle.ap_defs.specs.Substitution.{Binding, Equation, Problem, put, put_binding, put_equation, put_problem, under, ◌#◌, ◌:=◌, ◌≐◌}
+use Rattle.ap_defs.specs.Substitution.{Binding, Equation, Problem, put, put_binding, put_equation, put_problem, ◌#◌, ◌:=◌, ◌≐◌}
 use Rattle.ap_defs.specs.Terms.{NominalTerm}
-use Rattle.ap_defs.specs.Unification.{Progress, Rule, Stage, apply_rule, bind, clash, done, failed, next, replace, rule, step, step_of}
+use Rattle.ap_defs.specs.Unification.{Progress, Rule, Stage, apply_rule, bind, clash, done, failed, next, replace, rule, step_of}
 use Rattle.ap_defs.specs.declared.terms.Var.{Var}
 use Rattle.ap_theory.specs.Contexts.{Context, Equal, listed_context}
 use Rattle.ap_theory.specs.Substitutions.{Agrees, Equates, Freshens, Substitution, applied}
 use Rattle.ap_theory.proofs.EqualityLemmas.{Equal_itself, Fresh_both}
 use Rattle.ap_theory.proofs.LogicLemmas.{iff_both, iff_itself}
 use Rattle.ap_theory.proofs.SolvingLemmas.{Equal_both, Equates-append, Freshens-append, RuleHolds, put_Equal, rule_Holds}
-use Rattle.ap_rules.proofs.RunLemmas.{bound_in}
 use Rattle.ap_unify.proofs.AlikeLemmas.{alike_Freshens}
-use Rattle.ap_unify.specs.Needless.{Awaits, Follows, GoesTo, LeavesOut, front}
+use Rattle.ap_unify.specs.Needless.{Awaits, Follows, GoesTo, LeavesOut, all_but_last}
 use Rattle.ap_unify.specs.Parts.{IsReached, LeadsTo, with_problems}
 
 lt_no : (m n : ℕ) → n ≤ m → nat_lt m n ≡ false
@@ -28,29 +27,29 @@ no_lt : (m n : ℕ) → nat_lt m n ≡ false → n ≤ m
 no_lt m n h = grind (arith, nat_tests)
 
 -- The equations in front.
-front-append : (j : ℕ) (new es : List Equation) → j ≤ length es → front j (new ++ es) ≡ new ++ front j es
+front-append : (j : ℕ) (new es : List Equation) → j ≤ length es → all_but_last j (new ++ es) ≡ new ++ all_but_last j es
 front-append j [] es h = refl
 front-append j (e ∷ new) es h =
     let l : length (new ++ es) ≡ length new + length es = length-append new es in
-    ap (λ b. if b then [] else (e ∷ front j (new ++ es))) (lt_no (length (new ++ es)) j (omega arith)) ∙ ap (λ fs. e ∷ fs) (front-append j new es h)
+    ap (λ b. if b then [] else (e ∷ all_but_last j (new ++ es))) (lt_no (length (new ++ es)) j (omega arith)) ∙ ap (λ fs. e ∷ fs) (front-append j new es h)
 
-front-map : (j : ℕ) (f : Equation → Equation) (es : List Equation) → front j (map f es) ≡ map f (front j es)
+front-map : (j : ℕ) (f : Equation → Equation) (es : List Equation) → all_but_last j (map f es) ≡ map f (all_but_last j es)
 front-map j f [] = refl
 front-map j f (e ∷ es) =
-    ap (λ n. if nat_lt n j then [] else (f e ∷ front j (map f es))) (length-map es f)
-    ∙ elim (nat_lt (length es) j) as (λ b. (if b then [] else (f e ∷ front j (map f es))) ≡ map f (if b then [] else (e ∷ front j es))) [
+    ap (λ n. if nat_lt n j then [] else (f e ∷ all_but_last j (map f es))) (length-map es f)
+    ∙ elim (nat_lt (length es) j) as (λ b. (if b then [] else (f e ∷ all_but_last j (map f es))) ≡ map f (if b then [] else (e ∷ all_but_last j es))) [
       | true ↦ refl
       | false ↦ ap (λ fs. f e ∷ fs) (front-map j f es)
     ]
 
 -- of as many equations none is in front
-pub front_none : (es : List Equation) (j : ℕ) → length es ≤ j → front j es ≡ []
+pub front_none : (es : List Equation) (j : ℕ) → length es ≤ j → all_but_last j es ≡ []
 front_none [] j h = refl
-front_none (e ∷ es) j h = ap (λ b. if b then [] else (e ∷ front j es)) (lt_yes (length es) j (omega arith))
+front_none (e ∷ es) j h = ap (λ b. if b then [] else (e ∷ all_but_last j es)) (lt_yes (length es) j (omega arith))
 
 -- an equation is in front of those behind it
-pub front_first : (j : ℕ) (e : Equation) (es : List Equation) → j ≤ length es → front j (e ∷ es) ≡ e ∷ front j es
-front_first j e es h = ap (λ b. if b then [] else (e ∷ front j es)) (lt_no (length es) j h)
+pub front_first : (j : ℕ) (e : Equation) (es : List Equation) → j ≤ length es → all_but_last j (e ∷ es) ≡ e ∷ all_but_last j es
+front_first j e es h = ap (λ b. if b then [] else (e ∷ all_but_last j es)) (lt_no (length es) j h)
 
 module _ (d : Context) (s : Substitution) where
   put_Equates : (x : Var) (v : NominalTerm) → Equal d (s x) (applied s v) → (es : List Equation) → Equates d s es ↔ Equates d s (map (put_equation x v) es)
@@ -70,7 +69,7 @@ module _ (d : Context) (s : Substitution) where
   -- what agrees with the bindings of the later stage and solves its problems does so of the earlier one, and what solves its equations in front too
   abbrev pub Sound : Stage → Stage → Type 0
   Sound a b = Agrees d s b.bindings → Freshens d s b.problems
-      → Agrees d s a.bindings × Freshens d s a.problems × ((j : ℕ) → Equates d s (front j b.equations) → Equates d s (front j a.equations))
+      → Agrees d s a.bindings × Freshens d s a.problems × ((j : ℕ) → Equates d s (all_but_last j b.equations) → Equates d s (all_but_last j a.equations))
 
   abbrev SoundAfter : Stage → Progress → Type 0
   SoundAfter a (next b) = Sound a b
@@ -78,9 +77,9 @@ module _ (d : Context) (s : Substitution) where
   SoundAfter a failed = Unit {0}
 
   -- an equation before others
-  with_first : (j : ℕ) (t u : NominalTerm) (es : List Equation) → (j ≤ length es → Equal d (applied s t) (applied s u) × Equates d s (front j es)) → Equates d s (front j ((t ≐ u) ∷ es))
+  with_first : (j : ℕ) (t u : NominalTerm) (es : List Equation) → (j ≤ length es → Equal d (applied s t) (applied s u) × Equates d s (all_but_last j es)) → Equates d s (all_but_last j ((t ≐ u) ∷ es))
   with_first j t u es h =
-      elim (nat_lt (length es) j) as (λ b. nat_lt (length es) j ≡ b → Equates d s (if b then [] else ((t ≐ u) ∷ front j es))) [
+      elim (nat_lt (length es) j) as (λ b. nat_lt (length es) j ≡ b → Equates d s (if b then [] else ((t ≐ u) ∷ all_but_last j es))) [
         | true ↦ λ e. tt
         | false ↦ λ e. h (no_lt (length es) j e)
       ] refl
@@ -92,15 +91,15 @@ module _ (d : Context) (s : Substitution) where
         a,
         g.0,
         (λ j h. with_first j t u es (λ l.
-          let k = (Equates-append d s new (front j es)).0 (subst (Equates d s) (front-append j new es l) h) in
-          ((rule_Holds d s t u).1 (subst (RuleHolds d s) (sym e) (k.0, g.1)), k.1))),
+            let k = (Equates-append d s new (all_but_last j es)).0 (subst (Equates d s) (front-append j new es l) h) in
+            ((rule_Holds d s t u).1 (subst (RuleHolds d s) (sym e) (k.0, g.1)), k.1))),
       )
   sound_rule t u (bind x v) es ps bs e = λ a f. (
     (put_Agrees x v a.0 bs).1 a.1,
     (put_Freshens x v a.0 ps).1 f,
     (λ j h. with_first j t u es (λ l. (
       (rule_Holds d s t u).1 (subst (RuleHolds d s) (sym e) a.0),
-      (put_Equates x v a.0 (front j es)).1 (subst (Equates d s) (front-map j (put_equation x v) es) h),
+      (put_Equates x v a.0 (all_but_last j es)).1 (subst (Equates d s) (front-map j (put_equation x v) es) h),
     ))),
   )
   sound_rule t u clash es ps bs e = tt

@@ -27,12 +27,12 @@ abbrev pub GoesTo : Stage → Progress → Type 0
 GoesTo s p = (step s ≡ p) ⊎ LeavesOut s.equations s.problems s.bindings p
 
 -- the equations without the last so many
-abbrev pub front : ℕ → List Equation → List Equation
-front j [] = []
-front j (e ∷ es) = if nat_lt (length es) j then [] else (e ∷ front j es)
+abbrev pub all_but_last : ℕ → List Equation → List Equation
+all_but_last j [] = []
+all_but_last j (e ∷ es) = if nat_lt (length es) j then [] else (e ∷ all_but_last j es)
 
 -- two terms are equal once the equations before the last so many are solved
 abbrev pub Awaits : Stage → ℕ → NominalTerm → NominalTerm → Type 0
 Awaits r j t u =
-    (ds : Conds) (s : Substitution) → Agrees (listed_context ds) s r.bindings → Freshens (listed_context ds) s r.problems → Equates (listed_context ds) s (front j r.equations)
+    (ds : Conds) (s : Substitution) → Agrees (listed_context ds) s r.bindings → Freshens (listed_context ds) s r.problems → Equates (listed_context ds) s (all_but_last j r.equations)
     → Equal (listed_context ds) (applied s t) (applied s u)

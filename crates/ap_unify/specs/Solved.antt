@@ -16,8 +16,9 @@ IsSolved r (t ≐ u) = Follows r.bindings r.problems t u
 abbrev pub IsSolvedBefore : Stage → ℕ → Equation → Type 0
 IsSolvedBefore r j (t ≐ u) = Awaits r j t u
 
+-- of the first variable and the second one, on which the swappings wait
 abbrev pub suspensions_equation : Suspensions → Equation
-suspensions_equation e = act_term e.left.items (susp [] e.x) ≐ act_term e.right.items (susp [] e.y)
+suspensions_equation e = susp [] e.x ≐ act_term e.swaps.items (susp [] e.y)
 
 abbrev pub AllKnown : Stage → List Suspensions → Type 0
 AllKnown r [] = Unit {0}

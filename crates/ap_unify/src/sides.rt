@@ -1,6 +1,7 @@
 //! The swappings that wait on parts of terms, the same for all parts of a side.
 
 ghost use Rattle.std.specs.Prelude.{◌≡◌, ◌<◌, ◌+◌, ◌++◌, false, IfOk, OnOk};
+ghost use Rattle.ap_defs.specs.Canonical.{canonical};
 ghost use Rattle.ap_defs.specs.Permutations.{act_name, inverse};
 ghost use Rattle.ap_defs.specs.Renaming.{rename_name};
 ghost use Rattle.ap_defs.specs.Terms.{act_term};
@@ -13,7 +14,7 @@ use ap_defs::terms::{Name, Swap};
 use ap_equations::plain::Plain;
 use ap_perm::closures::Closure;
 use ap_perm::joining::numbered;
-use ap_perm::swappings::{image, preimage};
+use ap_perm::swappings::{canonical_list, image, preimage};
 use std::alloc::Global;
 
 /// The swappings that wait on the parts of a side: those that a closure had, the first outermost, and those that were
@@ -111,21 +112,13 @@ fn count(side: &Side) -> usize {
     side.swaps.len().saturating_add(side.added.len())
 }
 
-/// The swappings that wait on a side, the first outermost. Memory is asked for once.
-pub fn waiting_swaps(alloc: Global, side: &Side) -> Result<Vec<Swap>, Memory>
-    ensures { IfOk result (λ swaps. swaps.items ≡ waiting side.now) }
-{
-    let mut swaps = Vec::with_capacity(alloc, count(side))?;
-    put_waiting_swaps(&mut swaps, side)?;
-    Ok(swaps)
-}
-
 /// The closure of a part on which swappings wait. Memory is asked for once.
 pub fn moved_closure<'a>(alloc: Global, side: &Side, p: Plain<'a>) -> Result<Closure<'a>, Memory>
     ensures { IfOk result (λ c. closure_term c
         ≡ act_term (waiting side.now) (plain_term p.entry)) }
 {
-    let swaps = waiting_swaps(alloc, side)?;
+    let mut swaps = Vec::with_capacity(alloc, count(side))?;
+    put_waiting_swaps(&mut swaps, side)?;
     Ok(Closure {
         swaps,
         base: p.base,
@@ -156,4 +149,17 @@ pub fn moved_back<'a>(
         term: p.term,
     };
     Ok(moved.settled())
+}
+
+/// What the swappings on the right side do that those on the left side don't: it takes what is on the right to what is on
+/// the left once these are undone. As a canonical list.
+pub fn between(alloc: Global, sides: &Sides) -> Result<Vec<Swap>, Memory>
+    ensures { IfOk result (λ swaps. swaps.items
+        ≡ canonical (inverse (waiting sides.now.left) ++ waiting sides.now.right)) }
+{
+    let room = count(&sides.left).saturating_add(count(&sides.right));
+    let mut swaps = Vec::with_capacity(alloc, room)?;
+    put_undoing_swaps(&mut swaps, &sides.left)?;
+    put_waiting_swaps(&mut swaps, &sides.right)?;
+    canonical_list(alloc, &swaps)
 }

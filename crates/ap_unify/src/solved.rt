@@ -1,6 +1,7 @@
 //! Equations of two suspensions that were solved in this run, so that nothing is left of them.
 
 ghost use Rattle.std.specs.Prelude.{◌≡◌, ◌≤◌, ◌∷◌, ◌++◌, [], true, IfOk, OnOk, length};
+ghost use Rattle.ap_defs.specs.Freshness.{var_eq};
 ghost use Rattle.ap_defs.specs.Substitution.{◌≐◌};
 ghost use Rattle.ap_defs.specs.Terms.{act_term, susp};
 ghost use Rattle.ap_defs.specs.Unification.{Stage};
@@ -8,7 +9,7 @@ ghost use Rattle.ap_unify.specs.Moved.{moved_equation, waiting};
 ghost use Rattle.ap_unify.specs.Solved.{AllKnown, AreSolved, IsSolved, IsSolvedBefore, suspensions_equation};
 
 use crate::settled::variable_of;
-use crate::sides::{Side, Sides, waiting_swaps};
+use crate::sides::{Sides, between};
 use ap_defs::memory::Memory;
 use ap_defs::terms::{Swap, Var};
 use ap_equations::plain::PlainPair;
@@ -18,12 +19,11 @@ use std::collections::BTreeMap;
 /// Of so many equations that are not known one is noted.
 const ONE_IN: u64 = 16;
 
-/// Two variables, and the swappings that wait on each.
+/// Two variables, and the swappings that wait on the second one, as a canonical list.
 #[derive(Drop)]
 pub struct Suspensions {
-    pub left: Vec<Swap>,
     pub x: Var,
-    pub right: Vec<Swap>,
+    pub swaps: Vec<Swap>,
     pub y: Var,
 }
 
@@ -68,33 +68,28 @@ fn are_one(p: &[Swap], q: &[Swap]) -> bool
     p == q
 }
 
-/// Whether the swappings that wait on a side are those of a list.
-fn is_waiting(alloc: Global, side: &Side, swaps: &[Swap]) -> Result<bool, Memory>
-    ensures { IfOk result (λ same. same ≡ true → waiting side.now ≡ swaps.now) }
+/// Whether two variables are one.
+fn is_same(x: Var, y: Var) -> bool
+    ensures { result ≡ var_eq x y }
 {
-    let waiting = waiting_swaps(alloc, side)?;
-    Ok(are_one(&waiting, swaps))
+    x.num == y.num
 }
 
 /// Whether two suspensions are these variables with the swappings that wait on the sides.
-fn are_these(
-    alloc: Global,
-    e: &Suspensions,
-    sides: &Sides,
-    x: Var,
-    y: Var,
-) -> Result<bool, Memory>
-    ensures { IfOk result (λ same. same ≡ true → suspensions_equation e.now
-        ≡ (act_term (waiting sides.now.left) (susp [] x)
+fn are_these(alloc: Global, e: &Suspensions, sides: &Sides, x: Var, y: Var) -> Result<bool, Memory>
+    ensures { IfOk result (λ same. (r : Stage) → same ≡ true →
+        IsSolved r (suspensions_equation e.now) →
+        IsSolved r (act_term (waiting sides.now.left) (susp [] x)
         ≐ act_term (waiting sides.now.right) (susp [] y))) }
 {
-    if e.x != x || e.y != y {
+    if !is_same(e.x, x) {
         return Ok(false);
     }
-    if !is_waiting(alloc, &sides.left, &e.left)? {
+    if !is_same(e.y, y) {
         return Ok(false);
     }
-    is_waiting(alloc, &sides.right, &e.right)
+    let swaps = between(alloc, sides)?;
+    Ok(are_one(&e.swaps, &swaps))
 }
 
 /// Whether the equation of two variables with the swappings that wait on the sides stands at a place of those that are
@@ -119,13 +114,7 @@ fn is_at(
 }
 
 /// Whether the equation of two variables with the swappings that wait on the sides is known to be solved.
-fn is_known(
-    alloc: Global,
-    solved: &Solved,
-    sides: &Sides,
-    x: Var,
-    y: Var,
-) -> Result<bool, Memory>
+fn is_known(alloc: Global, solved: &Solved, sides: &Sides, x: Var, y: Var) -> Result<bool, Memory>
     ensures { IfOk result (λ same. (r : Stage) → same ≡ true → AreSolved r solved.now →
         IsSolved r (act_term (waiting sides.now.left) (susp [] x)
         ≐ act_term (waiting sides.now.right) (susp [] y))) }
@@ -177,9 +166,8 @@ fn note(
         (act_term (waiting sides.now.left) (susp [] x)
         ≐ act_term (waiting sides.now.right) (susp [] y)) → AreSolved r solved.new) }
 {
-    let left = waiting_swaps(alloc, &sides.left)?;
-    let right = waiting_swaps(alloc, &sides.right)?;
-    let pair = Suspensions { left, x, right, y };
+    let swaps = between(alloc, sides)?;
+    let pair = Suspensions { x, swaps, y };
     solved.awaited.push(Awaited { pair, behind })?;
     Ok(())
 }

@@ -7,7 +7,6 @@ use Rattle.ap_unify.proofs.WellLemmas.{well}
 use Rattle.ap_unify.proofs.moved_runs.way_unless_solved.Goals as goal
 use Rattle.ap_unify.specs.Moved.{moved_equation}
 use Rattle.ap_unify.specs.Parts.{LeadsTo, progress_to, stage_of, waiting_equations}
-use Rattle.ap_unify.specs.Solved.{AreSolvedAfter}
 
 pub returns-then-known-clause-stage : goal.returns-then-known-clause-stage
 returns-then-known-clause-stage c =
