@@ -192,7 +192,7 @@ fn behind(work: &Work<'_>, front: &Front<'_>) -> usize
     }
 }
 
-/// Likewise, and past the equation in front where it is known to be solved.
+/// One step for the equation in front, or past it where it is known to be solved.
 fn way_unless_solved<'a>(
     alloc: Global,
     store: &mut Store<'a>,
