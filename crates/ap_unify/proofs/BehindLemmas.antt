@@ -1,10 +1,11 @@
 -- Equations that wait behind others do not change how these are rewritten.
-use Rattle.std.proofs.Common.{◌≡◌, ◌≢◌, ℕ, zero, suc, ◌+◌, false, ◌||◌, List, [], ◌∷◌, ◌++◌, append_assoc, map, refl, sym, subst, ap, ap₂, ◌∙◌}
+use Rattle.std.proofs.Common.{◌≡◌, ◌≢◌, ℕ, zero, suc, ◌+◌, false, ◌||◌, List, [], ◌∷◌, ◌++◌, append_assoc, inl, inr, map, refl, sym, subst, ap, ap₂, ◌∙◌}
+use Rattle.std.specs.Prelude.{None}
 use Rattle.std.proofs.lemmas.List.{map-append}
 use Rattle.ap_defs.specs.Freshness.{Conds, var_eq}
 use Rattle.ap_defs.specs.Substitution.{Binding, Equation, Problem, occurs, put_binding, put_equation, put_problem, ◌:=◌, ◌≐◌}
 use Rattle.ap_defs.specs.Terms.{NominalTerm}
-use Rattle.ap_defs.specs.Unification.{Progress, Rule, Stage, apply_rule, bind, clash, done, ending, failed, finish, next, replace, rule, size, step_of, unsolvable}
+use Rattle.ap_defs.specs.Unification.{Progress, Rule, Stage, apply_rule, bind, clash, done, ending, failed, finish, next, replace, rule, size, step_of}
 use Rattle.ap_defs.specs.declared.terms.Var.{Var}
 use Rattle.ap_theory.proofs.IdempotenceLemmas.{under_each}
 use Rattle.ap_theory.proofs.TermLemmas.{var_eq_flip}
@@ -13,6 +14,7 @@ use Rattle.ap_theory.proofs.VariableLemmas.{EachEquation, each_equation-append, 
 use Rattle.ap_theory.specs.Variables.{EachVar, IsIdempotent, IsUnbound, is_bound}
 use Rattle.ap_unify.proofs.ReachLemmas.{leads_ending, leads_failed}
 use Rattle.ap_rules.proofs.RunLemmas.{bound_in, equations_put}
+use Rattle.ap_unify.specs.Needless.{GoesTo, LeavesOut}
 use Rattle.ap_unify.specs.Parts.{ReducesAlike, IsReached, LeadsTo}
 use Rattle.ap_rules.specs.Runs.{equation_under, stage_under}
 
@@ -50,6 +52,14 @@ fine_after : (es : List Equation) (ps : List Problem) (bs : List Binding) → Ea
 fine_after [] ps bs h = tt
 fine_after ((t ≐ u) ∷ es) ps bs h = fine_by_rule (size t + size u) (rule t u) es ps bs (rule_shrinks (IsUnbound bs) t u h.0.0 h.0.1) h.1
 
+left_out_fine : (es : List Equation) (ps : List Problem) (bs : List Binding) (p : Progress) → EachEquation (IsUnbound bs) es → LeavesOut es ps bs p → IsFineAfter p
+left_out_fine [] ps bs p h k = absurd k
+left_out_fine ((t ≐ u) ∷ es) ps bs p h k = subst IsFineAfter (sym k.0) h.1
+
+goes_fine : (s r : Stage) → IsFine s → GoesTo s (next r) → IsFine r
+goes_fine s r h (inl e) = subst IsFineAfter e (fine_after s.equations s.problems s.bindings h)
+goes_fine s r h (inr k) = left_out_fine s.equations s.problems s.bindings (next r) h k
+
 module _ (rest : List Equation) where
   -- the rest is put behind the equations
   abbrev behind : Stage → Stage
@@ -75,11 +85,17 @@ module _ (rest : List Equation) where
   behind_step ((t ≐ u) ∷ es) ps bs p h d e =
       behind_by_rule (size t + size u) (rule t u) es ps bs (rule_shrinks (IsUnbound bs) t u h.0.0 h.0.1) ∙ ap behind_after e
 
+  left_out_behind : (es : List Equation) (ps : List Problem) (bs : List Binding) (p : Progress) → LeavesOut es ps bs p → LeavesOut (es ++ map (equation_under bs) rest) ps bs (behind_after p)
+  left_out_behind [] ps bs p h = absurd h
+  left_out_behind ((t ≐ u) ∷ es) ps bs p h = (ap behind_after h.0, h.1)
+
+  goes_behind : (s : Stage) (p : Progress) → IsFine s → IsNotDone p → GoesTo s p → GoesTo (behind s) (behind_after p)
+  goes_behind s p h d (inl e) = inl (behind_step s.equations s.problems s.bindings p h d e)
+  goes_behind s p h d (inr k) = inr (left_out_behind s.equations s.problems s.bindings p k)
+
   reached_behind : (n : ℕ) (s : Stage) (p : Progress) → IsFine s → IsNotDone p → IsReached n s p → IsReached n (behind s) (behind_after p)
-  reached_behind zero s p h d e = behind_step s.equations s.problems s.bindings p h d e
-  reached_behind (suc n) s p h d (m, e, k) =
-      let f : IsFine m = subst IsFineAfter e (fine_after s.equations s.problems s.bindings h) in
-      (behind m, behind_step s.equations s.problems s.bindings (next m) h tt e, reached_behind n m p f d k)
+  reached_behind zero s p h d e = goes_behind s p h d e
+  reached_behind (suc n) s p h d (m, e, k) = (behind m, goes_behind s (next m) h tt e, reached_behind n m p (goes_fine s m h e) d k)
 
   behind_alike : (q p : Progress) → ReducesAlike q p → ReducesAlike (behind_after q) (behind_after p)
   behind_alike q done h = ap behind_after h
@@ -102,7 +118,7 @@ module _ (rest : List Equation) where
         leads_ending ds (stage_under s ((t ≐ u) ∷ rest) ps) (stage_under r rest qs)
         (leads_behind (stage_under s ((t ≐ u) ∷ []) ps) (next (stage_under r [] qs)) ((under_each s idempotent t, under_each s idempotent u), tt) tt h)
 
-    pub front_failed : LeadsTo (stage_under s ((t ≐ u) ∷ []) ps) failed → ending (stage_under s ((t ≐ u) ∷ rest) ps) ≡ unsolvable
-    front_failed h =
-        leads_failed (stage_under s ((t ≐ u) ∷ rest) ps)
+    pub front_failed : LeadsTo (stage_under s ((t ≐ u) ∷ []) ps) failed → (ds : Conds) → finish ds (ending (stage_under s ((t ≐ u) ∷ rest) ps)) ≡ None
+    front_failed h ds =
+        leads_failed ds (stage_under s ((t ≐ u) ∷ rest) ps)
         (leads_behind (stage_under s ((t ≐ u) ∷ []) ps) failed ((under_each s idempotent t, under_each s idempotent u), tt) tt h)

@@ -16,6 +16,7 @@ use Rattle.ap_rules.specs.Runs.{equation_under, problem_under, stage_under}
 use Rattle.ap_rules.specs.Work.{equations_left, pair_equation, problems_met}
 use Rattle.ap_rules.specs.declared.pairs.Work.{Work}
 use Rattle.ap_theory.proofs.SubstitutionLemmas.{under_act}
+use Rattle.ap_theory.specs.StatementsOnConditions.{collected}
 use Rattle.ap_theory.proofs.TermLemmas.{act_term-append}
 use Rattle.ap_unify.proofs.AlikeLemmas.{moved_back_alike}
 use Rattle.ap_unify.proofs.ReachLemmas.{leads_about, leads_now}
@@ -60,10 +61,10 @@ module _ (s : List Binding) (a b : Name) (t u : NominalTerm) (es : List Equation
         let by : step first ≡ by_rule exchanging =
         ap (λ z. by_rule (if z then replace ((under s t ≐ under s u) ∷ []) [] else (if a.sort == b.sort then exchanging else clash))) differ
         ∙ ap (λ z. by_rule (if z then exchanging else clash)) k in
-        let same : reduce_all [] qs ≡ reduce_all [] (map (problem_under s) (ps ++ (act_name (inverse p) a # w) ∷ [])) =
-        ap (λ z. reduce_all [] (map (problem_under s) ps ++ (a # z) ∷ [])) body
+        let same : collected (reduce_all [] qs) ≡ collected (reduce_all [] (map (problem_under s) (ps ++ (act_name (inverse p) a # w) ∷ []))) =
+        ap collected (ap (λ z. reduce_all [] (map (problem_under s) ps ++ (a # z) ∷ [])) body
         ∙ moved_back_alike p a (under s w) (map (problem_under s) ps)
-        ∙ ap (reduce_all []) (sym (map-append (problem_under s) ps ((act_name (inverse p) a # w) ∷ []))) in
+        ∙ ap (reduce_all []) (sym (map-append (problem_under s) ps ((act_name (inverse p) a # w) ∷ [])))) in
         leads_about first (by_rule exchanging) (next (stage_under s ((t ≐ v) ∷ es) (ps ++ (act_name (inverse p) a # w) ∷ []))) by
         (qs, ap (λ z. let r : Stage = record { equations = (under s t ≐ z) ∷ map (equation_under s) es; problems = qs; bindings = s } in next r) right, same)
 

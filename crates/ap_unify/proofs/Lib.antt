@@ -1,9 +1,11 @@
 pub mod AlikeLemmas
 pub mod BehindLemmas
 pub mod BinderLemmas
+pub mod FewerLemmas
 pub mod FinishLemmas
 pub mod FreshLemmas
 pub mod MovedLemmas
+pub mod NeedlessLemmas
 pub mod PartLemmas
 pub mod ReachLemmas
 pub mod ReducingLemmas
@@ -11,5 +13,7 @@ pub mod ResultLemmas
 pub mod SameLemmas
 pub mod SideLemmas
 pub mod SolutionLemmas
+pub mod SolvedLemmas
+pub mod SoundLemmas
 pub mod WayLemmas
 pub mod WellLemmas

@@ -1,5 +1,5 @@
 -- Parts that stand for one term already, so that nothing is left of their equation.
-use Rattle.std.proofs.Common.{◌≡◌, ◌==◌, ◌&&◌, ℕ, zero, suc, true, false, List, [], ◌∷◌, ◌++◌, map, refl, sym, subst, ap, ap₂, ◌∙◌, append-nil, arith}
+use Rattle.std.proofs.Common.{◌≡◌, ◌==◌, ◌&&◌, ℕ, zero, suc, true, false, List, [], ◌∷◌, ◌++◌, inl, map, refl, sym, subst, ap, ap₂, ◌∙◌, append-nil, arith}
 use Rattle.std.proofs.lemmas.Bool.Decides.{nat_tests}
 use Rattle.std.specs.BTreeSet.{contains}
 use Rattle.std.specs.Ordering.{is_eq, nat_cmp, ordering_then}
@@ -156,22 +156,22 @@ module _ (s : List Binding) where
 
   -- nothing is left of an equation of a term with itself
   itself : (t : NominalTerm) (es : List Equation) (ps : List Problem) → (n : ℕ) × IsReached n (equal_in_front t t es ps) (next (without es ps))
-  itself unit es ps = (0, ap (λ xs. next (without es xs)) (append-nil ps))
+  itself unit es ps = (0, inl (ap (λ xs. next (without es xs)) (append-nil ps)))
   itself (name a) es ps =
-      (0, ap (λ b. apply_rule (if b then replace [] [] else clash) es ps s) (name_eq_itself a) ∙ ap (λ xs. next (without es xs)) (append-nil ps))
+      (0, inl (ap (λ b. apply_rule (if b then replace [] [] else clash) es ps s) (name_eq_itself a) ∙ ap (λ xs. next (without es xs)) (append-nil ps)))
   itself (pair t u) es ps =
       let a = itself t ((u ≐ u) ∷ es) ps in
       let b = itself u es ps in
       let c = then_steps a.0 b.0 (equal_in_front t t ((u ≐ u) ∷ es) ps) (equal_in_front u u es ps) (next (without es ps)) a.1 b.1 in
-      (suc c.0, (equal_in_front t t ((u ≐ u) ∷ es) ps, ap (λ xs. next (equal_in_front t t ((u ≐ u) ∷ es) xs)) (append-nil ps), c.1))
+      (suc c.0, (equal_in_front t t ((u ≐ u) ∷ es) ps, inl (ap (λ xs. next (equal_in_front t t ((u ≐ u) ∷ es) xs)) (append-nil ps)), c.1))
   itself (app f t) es ps =
       let a = itself t es ps in
-      (suc a.0, (equal_in_front t t es ps, ap (λ b. apply_rule (if b then replace ((t ≐ t) ∷ []) [] else clash) es ps s) (number_itself f) ∙ ap (λ xs. next (equal_in_front t t es xs)) (append-nil ps), a.1))
+      (suc a.0, (equal_in_front t t es ps, inl (ap (λ b. apply_rule (if b then replace ((t ≐ t) ∷ []) [] else clash) es ps s) (number_itself f) ∙ ap (λ xs. next (equal_in_front t t es xs)) (append-nil ps)), a.1))
   itself (abs c t) es ps =
       let a = itself t es ps in
-      (suc a.0, (equal_in_front t t es ps, ap (λ b. apply_rule (if b then replace ((t ≐ t) ∷ []) [] else swapped c c t t) es ps s) (name_eq_itself c) ∙ ap (λ xs. next (equal_in_front t t es xs)) (append-nil ps), a.1))
+      (suc a.0, (equal_in_front t t es ps, inl (ap (λ b. apply_rule (if b then replace ((t ≐ t) ∷ []) [] else swapped c c t t) es ps s) (name_eq_itself c) ∙ ap (λ xs. next (equal_in_front t t es xs)) (append-nil ps)), a.1))
   itself (susp p x) es ps =
-      (0, rw (var_itself x) (ap (λ (cs : List Name). next (without es (ps ++ map (fresh_for x) cs))) (disagreement_none p p (λ c. refl)) ∙ ap (λ xs. next (without es xs)) (append-nil ps)))
+      (0, inl (rw (var_itself x) (ap (λ (cs : List Name). next (without es (ps ++ map (fresh_for x) cs))) (disagreement_none p p (λ c. refl)) ∙ ap (λ xs. next (without es xs)) (append-nil ps))))
 
   pub settled_way : (p : PlainPair) (o : Option PlainPair) (w : Work) → AreSame s p
       → LeadsTo (stage_of parts_equation s p o w) (next (stage_under s (waiting_equations parts_equation o ++ equations_left w) (problems_met w)))

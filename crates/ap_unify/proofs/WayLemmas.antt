@@ -66,12 +66,12 @@ module _ (q : PairReading) (s r : List Binding) (pair : PlainPair) (o : Option P
           ∙ turned turns.Both k (waiting_equations q o ++ equations_left v) (problems_met v) ∙ same_behind)
 
       pub other_way : turn ≡ turns.Other → (p : Progress) → LeadsTo (stage_with q r ahead.next u) p → LeadsTo before p
-      other_way k p =
-          let es = map (equation_under s) (waiting_equations q o ++ equations_left v) in
-          let ps = map (problem_under s) (problems_met v) in
+      other_way k p h =
           let m = turned turns.Other k in
-          leads_alike (stage_with q r ahead.next u) before p
-          (ap₂ (λ ds xs. step (stage_under r (q ahead.next ∷ ds) (map problem_for xs))) g i
-          ∙ ap (λ b. step (stage_under b (q ahead.next ∷ (waiting_equations q o ++ equations_left v)) (problems_met v))) m.0
-          ∙ sym (rule_first s (q ahead.next) (waiting_equations q o ++ equations_left v) (problems_met v))
-          ∙ ap (λ x. apply_rule x es ps s) m.1 ∙ same_behind)
+          let es = waiting_equations q o ++ equations_left w in
+          let l : equations_left u ≡ es = g ∙ ap (λ xs. waiting_equations q o ++ map pair_equation (reverse xs)) e in
+          let j : problems_met u ≡ problems_met w = ap (map problem_for) (i ∙ f) in
+          let one : LeadsTo (stage_under s (q ahead.next ∷ equations_left u) (problems_met u)) p =
+          subst (λ b. LeadsTo (stage_under b (q ahead.next ∷ equations_left u) (problems_met u)) p) m.0 h in
+          let two : LeadsTo (stage_under s (q ahead.next ∷ es) (problems_met u)) p = subst (λ xs. LeadsTo (stage_under s (q ahead.next ∷ xs) (problems_met u)) p) l one in
+          leads_alike s (q ahead.next) (q pair) es (problems_met w) p m.1 (subst (λ xs. LeadsTo (stage_under s (q ahead.next ∷ es) xs) p) j two)

@@ -1,6 +1,8 @@
 pub mod Finishing
 pub mod Lists
 pub mod Moved
+pub mod Needless
 pub mod Parts
 pub mod Settled
+pub mod Solved
 pub mod Unified

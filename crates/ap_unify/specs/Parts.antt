@@ -3,10 +3,11 @@ use Rattle.std.specs.Prelude.{◌≡◌, ◌<◌, ◌⊎◌, ℕ, zero, suc, tru
 use Rattle.ap_defs.specs.Renaming.{IsBelow}
 use Rattle.ap_defs.specs.Substitution.{Binding, Equation, Problem, under, ◌≐◌}
 use Rattle.ap_defs.specs.Terms.{NominalTerm, susp}
-use Rattle.ap_defs.specs.Unification.{Progress, Rule, Stage, apply_rule, failed, next, reduce_all, rule, step}
+use Rattle.ap_defs.specs.Unification.{Progress, Rule, Stage, apply_rule, failed, next, reduce_all, rule}
 use Rattle.ap_defs.specs.declared.terms.Var.{Var}
 use Rattle.ap_perm.specs.Lookups.{depth_of}
 use Rattle.ap_store.specs.Triples.{Triple}
+use Rattle.ap_theory.specs.StatementsOnConditions.{collected}
 use Rattle.ap_theory.specs.Variables.{IsUnbound}
 use Rattle.ap_rules.specs.Runs.{equation_under, problem_under, stage_under}
 use Rattle.ap_store.specs.Heads.{HasForm}
@@ -14,6 +15,7 @@ use Rattle.ap_store.specs.Marks.{HasNoVars}
 use Rattle.ap_rules.specs.Work.{equations_left, problems_met, progress_if, work_stage}
 use Rattle.ap_equations.specs.Plain.{plain_term}
 use Rattle.ap_equations.specs.declared.plain.Plain.{Plain}
+use Rattle.ap_unify.specs.Needless.{GoesTo}
 use Rattle.ap_unify.specs.declared.heads.Head.{Head}
 use Rattle.ap_unify.specs.declared.heads.Head.TheVariants as heads
 use Rattle.ap_unify.specs.declared.heads.Look.{Look}
@@ -141,17 +143,17 @@ abbrev pub AreWayMarksTrue : List Binding → Way → Front → Type 0
 AreWayMarksTrue s (ways.End b) f = Unit {0}
 AreWayMarksTrue s ways.On f = AreMarksTrue s f.ahead.next × AreWaitingMarksTrue s f.waiting
 
--- the stage goes on so by n more steps after the first one
+-- the stage goes on so by n more steps after the first one, where needless equations may be left out
 abbrev pub IsReached : ℕ → Stage → Progress → Type 0
-IsReached zero s p = step s ≡ p
-IsReached (suc n) s p = (r : Stage) × (step s ≡ next r) × IsReached n r p
+IsReached zero s p = GoesTo s p
+IsReached (suc n) s p = (r : Stage) × GoesTo s (next r) × IsReached n r p
 
 abbrev pub with_problems : List Problem → Stage → Stage
 with_problems ps s = record { equations = s.equations; problems = ps; bindings = s.bindings }
 
 -- the same, but for problems that reduce to the same conditions
 abbrev pub ReducesAlike : Progress → Progress → Type 0
-ReducesAlike p (next s) = (ps : List Problem) × (p ≡ next (with_problems ps s)) × (reduce_all [] ps ≡ reduce_all [] s.problems)
+ReducesAlike p (next s) = (ps : List Problem) × (p ≡ next (with_problems ps s)) × (collected (reduce_all [] ps) ≡ collected (reduce_all [] s.problems))
 ReducesAlike p q = p ≡ q
 
 -- by one step or several, where problems may be kept as others that reduce to the same

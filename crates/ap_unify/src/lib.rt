@@ -13,6 +13,7 @@ mod reducing;
 mod runs;
 mod settled;
 mod sides;
+mod solved;
 pub mod terms;
 pub mod unify;
 mod ways;

@@ -1,6 +1,6 @@
 //! How a run goes on from an equation of closures on which swappings wait.
 
-ghost use Rattle.std.specs.Prelude.{◌≡◌, ◌∷◌, ◌++◌, ℕ, None, IfOk, OnOk};
+ghost use Rattle.std.specs.Prelude.{◌≡◌, ◌≤◌, ◌∷◌, ◌++◌, ℕ, None, IfOk, OnOk, length};
 ghost use Rattle.ap_defs.specs.Unification.{step};
 ghost use Rattle.ap_rules.specs.Runs.{stage_under};
 ghost use Rattle.ap_rules.specs.Work.{ArePairsBelow, GoOn, IsPairBelow, equations_left, pair_equation, problems_met, progress_if, work_stage};
@@ -8,13 +8,15 @@ ghost use Rattle.ap_rules.specs.declared.pairs.Work.{Work};
 ghost use Rattle.ap_store.specs.Triples.{IsPrefixOf};
 ghost use Rattle.ap_store.specs.Views.{bindings_of, kinds, present, versions};
 ghost use Rattle.ap_unify.specs.Moved.{moved_equation};
-ghost use Rattle.ap_unify.specs.Parts.{AreBelowBoth, AreMarksTrue, AreWaitingMarksTrue, AreWayMarksTrue, IsWaitingBelow, IsWayBelow, LeadsTo, progress_to, stage_of, stage_with, waiting_equations};
+ghost use Rattle.ap_unify.specs.Parts.{AreBelowBoth, AreMarksTrue, AreWaitingMarksTrue, AreWayMarksTrue, IsWaitingBelow, IsWayBelow, LeadsTo, PairReading, progress_to, stage_of, stage_with, waiting_equations};
+ghost use Rattle.ap_unify.specs.Solved.{AreSolved, AreSolvedAfter};
 
 use crate::binders::next_binders;
 use crate::fronts::{Front, Way, after_done};
 use crate::moved::step_moved;
 use crate::parts::{Ahead, Turn, terms_of};
 use crate::sides::{Sides, apart, moved_closure, name_within};
+use crate::solved::{Solved, is_solved};
 use ap_defs::memory::Memory;
 use ap_defs::terms::{Name, Term};
 use ap_equations::plain::PlainPair;
@@ -179,20 +181,73 @@ fn next_moved<'a>(
     }
 }
 
+/// How many equations are behind the one in front.
+fn behind(work: &Work<'_>, front: &Front<'_>) -> usize
+    ensures { (q : PairReading) → result
+        ≤ length (waiting_equations q front.now.waiting ++ equations_left work.now) }
+{
+    match front.waiting {
+        None => work.equations.len(),
+        Some(_) => work.equations.len().saturating_add(1),
+    }
+}
+
+/// One step for the equation in front, or past it where it is known to be solved.
+fn way_unless_solved<'a>(
+    alloc: Global,
+    store: &mut Store<'a>,
+    work: &mut Work<'a>,
+    solved: &mut Solved,
+    sides: &mut Sides,
+    front: &mut Front<'a>,
+) -> Result<Way, Memory>
+    requires pair { AreBelowBoth (moved_equation sides.old) (present store.old).next
+        front.old.ahead.next }
+    requires waiting { IsWaitingBelow (moved_equation sides.old) (present store.old).next
+        front.old.waiting }
+    requires marks { AreMarksTrue (bindings_of store.old) front.old.ahead.next }
+    requires waiting_marks { AreWaitingMarksTrue (bindings_of store.old) front.old.waiting }
+    requires solved { AreSolved (stage_of (moved_equation sides.old) (bindings_of store.old)
+        front.old.ahead.next front.old.waiting work.old) solved.old }
+    ensures stage { IfOk result (λ way. LeadsTo (stage_of (moved_equation sides.old)
+        (bindings_of store.old) front.old.ahead.next front.old.waiting work.old)
+        (progress_to (moved_equation sides.new) way (bindings_of store.new) front.new work.new)) }
+    ensures solved { IfOk result (λ way. AreSolvedAfter (progress_to (moved_equation sides.new) way
+        (bindings_of store.new) front.new work.new) solved.new) }
+    ensures below { IfOk result (λ way.
+        IsWayBelow (moved_equation sides.new) (present store.old).next way front.new) }
+    ensures marks { IfOk result (λ way. AreWayMarksTrue (bindings_of store.new) way front.new) }
+    ensures goes_on { OnOk result (GoOn (present store.old) work.old (present store.new) work.new) }
+    ensures past { IsPrefixOf (versions store.old) (versions store.new) }
+    ensures kinds { kinds store.new ≡ kinds store.old }
+{
+    let others = behind(work, front);
+    let known = is_solved(alloc, solved, sides, front.ahead.next, others)?;
+    if known {
+        return Ok(after_done(front));
+    }
+    next_moved(alloc, store, work, sides, front)
+}
+
 /// Rewrites an equation of two parts on which swappings wait, in front of those that are left, as long as this makes
 /// another one of two parts. It answers false where there is no solution.
 fn along_moved<'a>(
     alloc: Global,
     store: &mut Store<'a>,
     work: &mut Work<'a>,
+    solved: &mut Solved,
     mut sides: Sides,
     first: PlainPair<'a>,
 ) -> Result<bool, Memory>
     requires below { AreBelowBoth (moved_equation sides) (present store.old).next first }
     requires marks { AreMarksTrue (bindings_of store.old) first }
+    requires solved { AreSolved (stage_with (moved_equation sides) (bindings_of store.old) first
+        work.old) solved.old }
     ensures stage { IfOk result (λ goes_on. LeadsTo (stage_with (moved_equation sides)
         (bindings_of store.old) first.entry work.old)
         (progress_if goes_on (work_stage (bindings_of store.new) work.new))) }
+    ensures solved { IfOk result (λ goes_on. AreSolvedAfter
+        (progress_if goes_on (work_stage (bindings_of store.new) work.new)) solved.new) }
     ensures goes_on { OnOk result (GoOn (present store.old) work.old (present store.new) work.new) }
     ensures past { IsPrefixOf (versions store.old) (versions store.new) }
     ensures kinds { kinds store.new ≡ kinds store.old }
@@ -206,7 +261,7 @@ fn along_moved<'a>(
         waiting: None,
     };
     'going: loop {
-        match next_moved(alloc, store, work, &mut sides, &mut front)? {
+        match way_unless_solved(alloc, store, work, solved, &mut sides, &mut front)? {
             Way::End(goes_on) => return Ok(goes_on),
             Way::On => {}
         }
@@ -219,12 +274,17 @@ pub fn along_closures<'a>(
     alloc: Global,
     store: &mut Store<'a>,
     work: &mut Work<'a>,
+    solved: &mut Solved,
     first: ClosurePair<'a>,
 ) -> Result<bool, Memory>
-    requires { IsPairBelow (present store.old).next first }
+    requires below { IsPairBelow (present store.old).next first }
+    requires solved { AreSolved (stage_under (bindings_of store.old)
+        (pair_equation first ∷ equations_left work.old) (problems_met work.old)) solved.old }
     ensures stage { IfOk result (λ goes_on. LeadsTo (stage_under (bindings_of store.old)
         (pair_equation first.entry ∷ equations_left work.old) (problems_met work.old))
         (progress_if goes_on (work_stage (bindings_of store.new) work.new))) }
+    ensures solved { IfOk result (λ goes_on. AreSolvedAfter
+        (progress_if goes_on (work_stage (bindings_of store.new) work.new)) solved.new) }
     ensures goes_on { OnOk result (GoOn (present store.old) work.old (present store.new) work.new) }
     ensures past { IsPrefixOf (versions store.old) (versions store.new) }
     ensures kinds { kinds store.new ≡ kinds store.old }
@@ -236,5 +296,5 @@ pub fn along_closures<'a>(
         left: left_side,
         right: right_side,
     };
-    along_moved(alloc, store, work, sides, PlainPair { left, right })
+    along_moved(alloc, store, work, solved, sides, PlainPair { left, right })
 }

@@ -8,6 +8,7 @@ ghost use Rattle.ap_unify.specs.Finishing.{EndsAs};
 ghost use Rattle.ap_unify.specs.Lists.{renamed_terms_in};
 ghost use Rattle.ap_unify.specs.Parts.{AreBelowBoth, AreMarksTrue, LeadsTo, Reaches, parts_equation, stage_with};
 ghost use Rattle.ap_unify.specs.Settled.{AreSettled};
+ghost use Rattle.ap_unify.specs.Solved.{AreSolved, AreSolvedAfter};
 ghost use Rattle.ap_equations.specs.Plain.{plain_term};
 ghost use Rattle.ap_rules.specs.Runs.{paired, stage_under};
 ghost use Rattle.ap_rules.specs.Work.{ArePairsBelow, GoOn, IsPairBelow, ending_if, equations_left, pair_equation, problems_met, progress_if, work_stage};
@@ -16,6 +17,7 @@ use crate::fronts::{Front, Way};
 use crate::moved_runs::along_closures;
 use crate::parts::Ahead;
 use crate::settled::Settled;
+use crate::solved::{Solved, take_solved};
 use crate::terms::Terms;
 use crate::ways::{next_way, way_unless_settled};
 use ap_defs::memory::Memory;
@@ -97,14 +99,19 @@ fn advance_by<'a>(
     store: &mut Store<'a>,
     work: &mut Work<'a>,
     settled: &mut Settled,
+    solved: &mut Solved,
     first: ClosurePair<'a>,
 ) -> Result<bool, Memory>
     requires below { IsPairBelow (present store.old).next first }
     requires settled { AreSettled (bindings_of store.old) settled.old }
+    requires solved { AreSolved (stage_under (bindings_of store.old)
+        (pair_equation first ∷ equations_left work.old) (problems_met work.old)) solved.old }
     ensures stage { IfOk result (λ goes_on. LeadsTo (stage_under (bindings_of store.old)
         (pair_equation first.entry ∷ equations_left work.old) (problems_met work.old))
         (progress_if goes_on (work_stage (bindings_of store.new) work.new))) }
     ensures settled { OnOk result (AreSettled (bindings_of store.new) settled.new) }
+    ensures solved { IfOk result (λ goes_on. AreSolvedAfter
+        (progress_if goes_on (work_stage (bindings_of store.new) work.new)) solved.new) }
     ensures goes_on { OnOk result (GoOn (present store.old) work.old (present store.new) work.new) }
     ensures past { IsPrefixOf (versions store.old) (versions store.new) }
     ensures kinds { kinds store.new ≡ kinds store.old }
@@ -115,7 +122,7 @@ fn advance_by<'a>(
         (Some(left), Some(right)) => {
             along_unless_settled(alloc, store, work, settled, PlainPair { left, right })
         },
-        _ => along_closures(alloc, store, work, first),
+        _ => along_closures(alloc, store, work, solved, first),
     }
 }
 
@@ -125,21 +132,26 @@ fn advance<'a>(
     store: &mut Store<'a>,
     work: &mut Work<'a>,
     settled: &mut Settled,
+    solved: &mut Solved,
 ) -> Result<bool, Memory>
     requires some { 0 < vec_len work.old.equations }
     requires below { ArePairsBelow (present store.old).next work.old.equations.items }
     requires settled { AreSettled (bindings_of store.old) settled.old }
+    requires solved { AreSolved (work_stage (bindings_of store.old) work.old) solved.old }
     ensures stage { IfOk result (λ goes_on. LeadsTo (work_stage (bindings_of store.old) work.old)
         (progress_if goes_on (work_stage (bindings_of store.new) work.new))) }
     ensures settled { OnOk result (AreSettled (bindings_of store.new) settled.new) }
+    ensures solved { IfOk result (λ goes_on. AreSolvedAfter
+        (progress_if goes_on (work_stage (bindings_of store.new) work.new)) solved.new) }
     ensures goes_on { OnOk result (GoOn (present store.old) work.old (present store.new) work.new) }
     ensures past { IsPrefixOf (versions store.old) (versions store.new) }
     ensures kinds { kinds store.new ≡ kinds store.old }
 {
+    take_solved(solved, work.equations.len())?;
     let Some(first) = work.equations.pop() else {
         return Ok(true);
     };
-    advance_by(alloc, store, work, settled, first)
+    advance_by(alloc, store, work, settled, solved, first)
 }
 
 /// Rewrites equations from the first, until none is left or there is no solution.
@@ -156,8 +168,9 @@ fn run<'a>(alloc: Global, store: &mut Store<'a>, work: &mut Work<'a>) -> Result<
         return Ok(true);
     }
     let mut settled = Settled::new(alloc);
+    let mut solved = Solved::new(alloc);
     'rewriting: while !work.equations.is_empty() {
-        if !advance(alloc, store, work, &mut settled)? {
+        if !advance(alloc, store, work, &mut settled, &mut solved)? {
             return Ok(false);
         }
     }

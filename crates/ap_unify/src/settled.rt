@@ -58,7 +58,7 @@ impl Settled {
 }
 
 /// The variable of which a part is a suspension, on which no swappings wait.
-fn variable_of(p: Plain<'_>) -> Option<Var>
+pub(crate) fn variable_of(p: Plain<'_>) -> Option<Var>
     ensures { IfSome result (λ x. plain_term p.entry ≡ susp [] x) }
 {
     match p.term {

@@ -1,6 +1,7 @@
 //! The swappings that wait on parts of terms, the same for all parts of a side.
 
 ghost use Rattle.std.specs.Prelude.{◌≡◌, ◌<◌, ◌+◌, ◌++◌, false, IfOk, OnOk};
+ghost use Rattle.ap_defs.specs.Canonical.{canonical};
 ghost use Rattle.ap_defs.specs.Permutations.{act_name, inverse};
 ghost use Rattle.ap_defs.specs.Renaming.{rename_name};
 ghost use Rattle.ap_defs.specs.Terms.{act_term};
@@ -13,7 +14,7 @@ use ap_defs::terms::{Name, Swap};
 use ap_equations::plain::Plain;
 use ap_perm::closures::Closure;
 use ap_perm::joining::numbered;
-use ap_perm::swappings::{image, preimage};
+use ap_perm::swappings::{canonical_list, image, preimage};
 use std::alloc::Global;
 
 /// The swappings that wait on the parts of a side: those that a closure had, the first outermost, and those that were
@@ -148,4 +149,17 @@ pub fn moved_back<'a>(
         term: p.term,
     };
     Ok(moved.settled())
+}
+
+/// What the swappings on the right side do that those on the left side don't: it takes what is on the right to what is on
+/// the left once these are undone. As a canonical list.
+pub fn between(alloc: Global, sides: &Sides) -> Result<Vec<Swap>, Memory>
+    ensures { IfOk result (λ swaps. swaps.items
+        ≡ canonical (inverse (waiting sides.now.left) ++ waiting sides.now.right)) }
+{
+    let room = count(&sides.left).saturating_add(count(&sides.right));
+    let mut swaps = Vec::with_capacity(alloc, room)?;
+    put_undoing_swaps(&mut swaps, &sides.left)?;
+    put_waiting_swaps(&mut swaps, &sides.right)?;
+    canonical_list(alloc, &swaps)
 }

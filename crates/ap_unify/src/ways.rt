@@ -15,6 +15,7 @@ use crate::fronts::{Front, Way, after_done};
 use crate::moved_runs::along_closures;
 use crate::parts::{Turn, step_parts};
 use crate::settled::{Settled, is_settled};
+use crate::solved::Solved;
 use ap_defs::memory::Memory;
 use ap_equations::plain::PlainPair;
 use ap_equations::work::put_equation;
@@ -62,7 +63,8 @@ fn by_closures<'a>(
 {
     let left = store.shortened(pair.left.closure(alloc))?;
     let right = store.shortened(pair.right.closure(alloc))?;
-    along_closures(alloc, store, work, ClosurePair { left, right })
+    let mut solved = Solved::new(alloc);
+    along_closures(alloc, store, work, &mut solved, ClosurePair { left, right })
 }
 
 /// One step for the equation in front, or several by closures. It is replaced in the place.

@@ -2,7 +2,7 @@ use Rattle.std.proofs.Common.{◌≡◌}
 use Rattle.ap_defs.specs.Unification.{Progress}
 use Rattle.ap_store.specs.Triples.{IsPrefixOf}
 use Rattle.ap_store.specs.Views.{bindings_of, kinds, present, versions}
-use Rattle.ap_unify.proofs.AlikeLemmas.{steps_to_end}
+use Rattle.ap_unify.proofs.FewerLemmas.{steps_to_end}
 use Rattle.ap_unify.specs.Parts.{AreBelowBoth, AreMarksTrue, AreWaitingMarksTrue, IsWaitingBelow, LeadsTo, parts_equation, stage_of}
 use Rattle.ap_rules.specs.Work.{GoOn}
 use Rattle.ap_unify.specs.Settled.{AreSettled}

@@ -53,8 +53,8 @@ returns-then-not-branch-clause-ending c = λ ds.
     let k : LeadsTo (stage_under s ((t ≐ u) ∷ []) ps) failed =
     subst (λ (es : List ClosurePair). LeadsTo (stage_under s ((t ≐ u) ∷ map pair_equation (reverse es)) ps) failed) c.places.invariant.none h in
     c.places.invariant.ending ds
-    ∙ ap (finish ds) (ap₂ (λ xs ys. ending (stage_under s (paired xs ys) ps)) c.term_at-here.ensures.term c.term_at-there.ensures.term
-    ∙ front_failed (paired (drop (c.places.i + 1) ts) (drop (c.places.i + 1) us)) s (well c.places.store).idempotent t u ps k)
+    ∙ ap₂ (λ xs ys. finish ds (ending (stage_under s (paired xs ys) ps))) c.term_at-here.ensures.term c.term_at-there.ensures.term
+    ∙ front_failed (paired (drop (c.places.i + 1) ts) (drop (c.places.i + 1) us)) s (well c.places.store).idempotent t u ps k ds
 
 pub places-preserved : goal.places-preserved
 places-preserved c =
