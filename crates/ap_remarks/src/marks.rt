@@ -154,12 +154,21 @@ fn line_end(bytes: &[u8], start: usize) -> usize {
     end
 }
 
-/// What finds the tokens of one item after another, each at once.
+/// Whether a token is looked at that stands in a list behind its first one: a bracket, a binder, or a variable that may
+/// stand once.
+fn counts_in_list(kind: Kind) -> bool {
+    !matches!(kind, Kind::Word | Kind::Comma | Kind::Other)
+}
+
+/// What finds the tokens of one item after another, each at once. Of what stands in a list it keeps no more than
+/// warnings look at: the first token, brackets, and variables that may stand once.
 #[derive(Drop)]
 pub(crate) struct Scanner<'t> {
     bytes: &'t [u8],
-    // the tokens of the item, without its `.`
+    // the tokens of the item that are kept, without its `.`
     marks: Vec<Mark>,
+    // how many lists are open
+    lists: usize,
 }
 
 impl<'t> Scanner<'t> {
@@ -168,6 +177,7 @@ impl<'t> Scanner<'t> {
         Scanner {
             bytes: text.as_bytes(),
             marks: Vec::new(alloc),
+            lists: 0,
         }
     }
 
@@ -179,13 +189,40 @@ impl<'t> Scanner<'t> {
     /// Forgets the item.
     pub(crate) fn begin_item(&mut self) {
         self.marks.clear();
+        self.lists = 0;
+    }
+
+    /// Whether a token that is not looked at is left out: it stands in a list, and isn't its first one.
+    fn is_behind_in_list(&self) -> bool {
+        match self.marks.last() {
+            Some(last) => self.lists > 0 && !matches!(last.kind, Kind::OpenList),
+            None => false,
+        }
+    }
+
+    /// Keeps a sign.
+    fn keep_sign(&mut self, kind: Kind, place: usize) -> Result<(), Memory> {
+        match kind {
+            Kind::OpenList => self.lists = self.lists.saturating_add(1),
+            Kind::CloseList => self.lists = self.lists.saturating_sub(1),
+            _ => {}
+        }
+        if counts_in_list(kind) || !self.is_behind_in_list() {
+            self.marks
+                .push(Mark::of(kind, place, place.saturating_add(1)))?;
+        }
+        Ok(())
     }
 
     /// Takes the word that begins at a place, and gives the place behind it.
     fn take_word(&mut self, start: usize) -> Result<usize, Memory> {
         let end = word_end(self.bytes, start);
-        let kind = word_kind(self.bytes.get(start..end).unwrap_or(&[]));
-        self.marks.push(Mark::of(kind, start, end))?;
+        let word = self.bytes.get(start..end).unwrap_or(&[]);
+        let kind = word_kind(word);
+        let counts = counts_in_list(kind) && !matches!(word, [b'_', ..]);
+        if counts || !self.is_behind_in_list() {
+            self.marks.push(Mark::of(kind, start, end))?;
+        }
         Ok(end)
     }
 
@@ -209,7 +246,7 @@ impl<'t> Scanner<'t> {
             Class::Word => return Ok(Some(self.take_word(place)?)),
             Class::Comment => return Ok(Some(line_end(self.bytes, next))),
             Class::Sign(Kind::Dot) => return Ok(None),
-            Class::Sign(kind) => self.marks.push(Mark::of(kind, place, next))?,
+            Class::Sign(kind) => self.keep_sign(kind, place)?,
             Class::Dash => self.take_dash(place),
             Class::Blank => {}
         }
