@@ -1,5 +1,5 @@
 -- What is found of a variable in a term tells what was not found.
-use Rattle.std.proofs.Common.{◌≡◌, ℕ, List, Bool, true, false, true≢false, refl, sym, ap}
+use Rattle.std.proofs.Common.{◌≡◌, ◌⊎◌, ◌∙◌, ℕ, List, Bool, true, false, true≢false, inl, inr, refl, sym, ap}
 use Rattle.std.specs.Prelude.{if◌then◌else◌}
 use Rattle.ap_defs.specs.Renaming.{rename_term}
 use Rattle.ap_defs.specs.Substitution.{Binding, occurs, under}
@@ -11,19 +11,26 @@ use Rattle.ap_store.specs.Marks.{HasNoVars, IsConstant}
 use Rattle.ap_store.specs.declared.occurrences.Occurrence.{Occurrence}
 use Rattle.ap_store.specs.declared.occurrences.Occurrence.TheVariants as occurrences
 
-pub not_found : (is_open : Bool) → does_occur (if is_open then occurrences.Apart else occurrences.Ground) ≡ false
-not_found true = refl
-not_found false = refl
+-- what is told where all was looked through
+abbrev told : Bool → Bool → Occurrence
+told is_open is_far = if is_open then (if is_far then occurrences.Far else occurrences.Apart) else occurrences.Ground
+
+pub not_found : (is_open is_far : Bool) → does_occur (told is_open is_far) ≡ false
+not_found true true = refl
+not_found true false = refl
+not_found false is_far = refl
 
 abbrev is_shut : Occurrence → Bool
 is_shut occurrences.Occurs = false
 is_shut occurrences.Apart = false
+is_shut occurrences.Far = false
 is_shut occurrences.Ground = true
 is_shut (occurrences.Like w) = false
 
 abbrev is_like : Occurrence → Bool
 is_like occurrences.Occurs = false
 is_like occurrences.Apart = false
+is_like occurrences.Far = false
 is_like occurrences.Ground = false
 is_like (occurrences.Like w) = true
 
@@ -45,13 +52,44 @@ apart_not_like w e = true≢false (sym (ap is_like e))
 pub occurs_not_like : (w : Var) → occurrences.Occurs ≡ occurrences.Like w → ⊥
 occurs_not_like w e = true≢false (sym (ap is_like e))
 
-pub shut_if_ground : (is_open : Bool) → (if is_open then occurrences.Apart else occurrences.Ground) ≡ occurrences.Ground → is_open ≡ false
-shut_if_ground false e = refl
-shut_if_ground true e = absurd (apart_not_ground e)
+far_not_ground : occurrences.Far ≡ occurrences.Ground → ⊥
+far_not_ground e = true≢false (sym (ap is_shut e))
 
-pub without_like : (is_open : Bool) (w : Var) → (if is_open then occurrences.Apart else occurrences.Ground) ≡ occurrences.Like w → ⊥
-without_like true w e = apart_not_like w e
-without_like false w e = ground_not_like w e
+far_not_like : (w : Var) → occurrences.Far ≡ occurrences.Like w → ⊥
+far_not_like w e = true≢false (sym (ap is_like e))
+
+pub shut_if_ground : (is_open is_far : Bool) → told is_open is_far ≡ occurrences.Ground → is_open ≡ false
+shut_if_ground false is_far e = refl
+shut_if_ground true true e = absurd (far_not_ground e)
+shut_if_ground true false e = absurd (apart_not_ground e)
+
+pub without_like : (is_open is_far : Bool) (w : Var) → told is_open is_far ≡ occurrences.Like w → ⊥
+without_like true true w e = far_not_like w e
+without_like true false w e = apart_not_like w e
+without_like false is_far w e = ground_not_like w e
+
+abbrev var_or : Var → Occurrence → Var
+var_or v occurrences.Occurs = v
+var_or v occurrences.Apart = v
+var_or v occurrences.Far = v
+var_or v occurrences.Ground = v
+var_or v (occurrences.Like w) = w
+
+pub same_like : (u w : Var) → occurrences.Like u ≡ occurrences.Like w → u ≡ w
+same_like u w e = ap (var_or u) e
+
+-- what is told behind a variable
+pub behind_apart : (w : Var) (o : Occurrence) → (o ≡ occurrences.Apart) ⊎ (o ≡ occurrences.Like w) → does_occur o ≡ false
+behind_apart w o (inl e) = ap does_occur e
+behind_apart w o (inr e) = ap does_occur e
+
+pub behind_not_ground : (w : Var) (o : Occurrence) → (o ≡ occurrences.Apart) ⊎ (o ≡ occurrences.Like w) → o ≡ occurrences.Ground → ⊥
+behind_not_ground w o (inl e) k = apart_not_ground (sym e ∙ k)
+behind_not_ground w o (inr e) k = like_not_ground w (sym e ∙ k)
+
+pub behind_like : (w v : Var) (o : Occurrence) → (o ≡ occurrences.Apart) ⊎ (o ≡ occurrences.Like w) → o ≡ occurrences.Like v → w ≡ v
+behind_like w v o (inl e) k = absurd (apart_not_like v (sym e ∙ k))
+behind_like w v o (inr e) k = same_like w v (sym e ∙ k)
 
 -- a constant has no variables, whatever acts on it and is bound
 pub constant_no_vars : (s : List Binding) (p : List Swap) (base : ℕ) (t : NominalTerm) → IsConstant t → HasNoVars (under s (act_term p (rename_term base t)))

@@ -11,6 +11,7 @@ ghost use Rattle.ap_store.specs.Slots.{var_at};
 ghost use Rattle.ap_store.specs.Views.{bindings_of, meaning_in};
 
 use crate::bare::Bare;
+use crate::beside::occurs_beside;
 use crate::likes::Like;
 use crate::narrow::{Narrowed, narrow_down};
 use crate::passed::{Passed, is_passed, pass};
@@ -21,12 +22,13 @@ use ap_defs::terms::{Term, Var};
 use ap_perm::closures::Closure;
 use std::alloc::Global;
 
-/// Whether a variable occurs in a term: it does; it doesn't; no variable stands there at all; or it doesn't, and
-/// those that stand there are those of one variable.
+/// Whether a variable occurs in a term: it does; it doesn't; it doesn't, which took a long look; no variable stands
+/// there at all; or it doesn't, and those that stand there are those of one variable.
 #[derive(Clone, Copy)]
 pub enum Occurrence {
     Occurs,
     Apart,
+    Far,
     Ground,
     Like(Var),
 }
@@ -44,6 +46,11 @@ impl Occurrence {
         ensures { IsTrue result ↔ (self ≡ Occurrence.Ground) }
     {
         matches!(self, Occurrence::Ground)
+    }
+
+    /// Whether the look was long.
+    pub(crate) fn is_far(self) -> bool {
+        matches!(self, Occurrence::Far)
     }
 
     /// What is kept beside a variable that is bound to such a term.
@@ -128,12 +135,26 @@ fn seen_once<'a>(store: &Store<'a>, passed: &Passed, x: Var) -> Once<'a>
     }
 }
 
-/// A variable does not occur where all was looked through; unbound ones may have been seen.
-fn without(is_open: bool) -> Occurrence
-    ensures { result ≡ (if is_open then Occurrence.Apart else Occurrence.Ground) }
+/// A look that goes through so many bound variables is long.
+const FAR: usize = 512;
+
+/// Whether a look was so long that mentions should be kept, and are not.
+fn was_long(store: &Store<'_>, passed: &Passed) -> bool {
+    passed.count >= FAR && !store.keeps_mentions()
+}
+
+/// A variable does not occur where all was looked through; unbound ones may have been seen, and the look may have
+/// been long.
+fn without(is_open: bool, is_far: bool) -> Occurrence
+    ensures { result ≡ (if is_open then (if is_far then Occurrence.Far else Occurrence.Apart)
+        else Occurrence.Ground) }
 {
     if is_open {
-        Occurrence::Apart
+        if is_far {
+            Occurrence::Far
+        } else {
+            Occurrence::Apart
+        }
     } else {
         Occurrence::Ground
     }
@@ -150,7 +171,7 @@ pub enum Step<'a> {
 }
 
 /// What a part begins with. It takes no memory.
-fn step_of<'a>(b: Bare<'a>) -> Step<'a>
+pub(crate) fn step_of<'a>(b: Bare<'a>) -> Step<'a>
     ensures { IsPartStep (bare_term b.entry) result }
 {
     let _end = b.end;
@@ -216,7 +237,7 @@ fn occurs_below<'a>(
             },
         }
         let Some(next) = waiting.pop() else {
-            return Ok(without(is_open));
+            return Ok(without(is_open, was_long(store, &passed)));
         };
         here = next;
     }
@@ -253,7 +274,7 @@ fn told_of(found: Occurrence, like: Option<Var>) -> Occurrence
 /// Whether a variable occurs in what a part stands for: where it may be in the variables of a single one only, in
 /// what that stands for.
 #[inline(never)]
-fn occurs_in_part<'a>(
+pub(crate) fn occurs_in_part<'a>(
     alloc: Global,
     store: &Store<'a>,
     x: Var,
@@ -274,6 +295,27 @@ fn occurs_in_part<'a>(
             Ok(told_of(found, like))
         }
     }
+}
+
+/// Whether a variable occurs in what a part stands for.
+#[inline(always)]
+fn occurs_there<'a>(
+    alloc: Global,
+    store: &Store<'a>,
+    x: Var,
+    first: Bare<'a>,
+) -> Result<Occurrence, Memory>
+    ensures found { IfOk result (λ o. does_occur o ≡ occurs_in store.now x first.entry) }
+    ensures no_vars { IfOk result (λ o. o ≡ Occurrence.Ground →
+        HasNoVars (under (bindings_of store.now) (bare_term first.entry))) }
+    ensures like { IfOk result (λ o. (w : variable) → o ≡ Occurrence.Like w →
+        HaveSameVars (under (bindings_of store.now) (bare_term first.entry))
+        (under (bindings_of store.now) (susp [] w))) }
+{
+    if store.keeps_mentions() {
+        return occurs_beside(alloc, store, x, first);
+    }
+    occurs_in_part(alloc, store, x, first)
 }
 
 /// Whether a term is the one without parts.
@@ -318,7 +360,7 @@ impl<'a> Store<'a> {
             end: c.end,
             term: c.term,
         };
-        let found = occurs_in_part(alloc, self, x, first)?;
+        let found = occurs_there(alloc, self, x, first)?;
         Ok(found)
     }
 }
