@@ -67,7 +67,7 @@ pub unmentioned_absent : (s : Store) (x : Var) → s.mentions.is_kept ≡ true �
 unmentioned_absent s x k n t h =
     let P : Var → Type 0 = λ y. y ≢ x in
     let g = ground_in s.table.items in
-    let others = λ i l y o e. n (subst (IsMentioned s.mentions) e (s.mentioned k i l y o)) in
+    let others : TableOpen P g s.table.items = λ i l y o e. n (subst (IsMentioned s.mentions) e (s.mentioned k i l y o)) in
     let b = each_after P g (changes s) empty s.marked (changes_open P g s.table.items s.trail.items s.noted.items others) tt in
     let each = under_each P (bindings_of s) b t (λ y o e. true≢false (sym o ∙ ap (λ z. occurs z t) e ∙ h)) in
     false_if_not (occurs x (under (bindings_of s) t)) (λ o. each x o refl)
@@ -149,29 +149,31 @@ on_ok (Ok x) f h = f h
 on_ok (Err e) f h = h
 
 -- One more slot of a table is looked at.
-abbrev IsMentionedTo : Mentions → List Slot → ℕ → Type 0
+abbrev pub IsMentionedTo : Mentions → List Slot → ℕ → Type 0
 IsMentionedTo m ss n = m.is_kept ≡ true → (i : ℕ) → i < n → ground_in ss i ≡ false → EachVar (IsMentioned m) (term_or_unit (bound_in ss i))
+
+here_or_before : (n : Mentions) (ss : List Slot) (k i : ℕ) → ground_in ss i ≡ false → i < k + 1 → (i ≡ k) ⊎ ((i < k) ⊎ (k < i))
+    → (ground_in ss k ≡ false → EachVar (IsMentioned n) (term_or_unit (bound_in ss k))) → (i < k → EachVar (IsMentioned n) (term_or_unit (bound_in ss i)))
+    → EachVar (IsMentioned n) (term_or_unit (bound_in ss i))
+here_or_before n ss k i g b (inl e) here before = subst (λ (j : ℕ). EachVar (IsMentioned n) (term_or_unit (bound_in ss j))) (sym e) (here (ap (ground_in ss) (sym e) ∙ g))
+here_or_before n ss k i g b (inr (inl d)) here before = before d
+here_or_before n ss k i g b (inr (inr d)) here before = absurd (omega (arith, b, d))
 
 pub one_mentioned : (m n : Mentions) (ss : List Slot) (k : ℕ) → IsMentionedTo m ss k → (n.is_kept ≡ true → m.is_kept ≡ true)
     → (n.is_kept ≡ true → (y : Var) → IsMentioned m y → IsMentioned n y)
     → (n.is_kept ≡ true → ground_in ss k ≡ false → EachVar (IsMentioned n) (term_or_unit (bound_in ss k))) → IsMentionedTo n ss (k + 1)
-one_mentioned m n ss k h kept stay here = λ l i b g.
-    elim (cases_order i k) [
-      | inl e ↦ subst (λ (j : ℕ). EachVar (IsMentioned n) (term_or_unit (bound_in ss j))) (sym e) (here l (ap (ground_in ss) (sym e) ∙ g))
-      | inr (inl d) ↦ λ y o. stay l y (h (kept l) i d g y o)
-      | inr (inr d) ↦ absurd (omega (arith, b, d))
-    ]
+one_mentioned m n ss k h kept stay here = λ l i b g. here_or_before n ss k i g b (cases_order i k) (here l) (λ d y o. stay l y (h (kept l) i d g y o))
+
+beyond_all : (P : Var → Type 0) (ss : List Slot) (i : ℕ) → length ss ≤ i → EachVar P (term_or_unit (bound_in ss i))
+beyond_all P ss i l = subst (λ (o : Option NominalTerm). EachVar P (term_or_unit o)) (sym (bound_in_beyond ss i l)) (no_var P)
+
+before_or_beyond : (P : Var → Type 0) (ss : List Slot) (n i : ℕ) → length ss ≤ n → (i < n → EachVar P (term_or_unit (bound_in ss i))) → (i ≡ n) ⊎ ((i < n) ⊎ (n < i)) → EachVar P (term_or_unit (bound_in ss i))
+before_or_beyond P ss n i l f (inl e) = beyond_all P ss i (omega (arith, e, l))
+before_or_beyond P ss n i l f (inr (inl b)) = f b
+before_or_beyond P ss n i l f (inr (inr b)) = beyond_all P ss i (omega (arith, b, l))
 
 pub all_mentioned : (m : Mentions) (ss : List Slot) (n : ℕ) → length ss ≤ n → IsMentionedTo m ss n → AreMentioned m ss
-all_mentioned m ss n l h = λ k i g.
-    elim (cases_order i n) [
-      | inl e ↦ beyond i (omega (arith, e, l))
-      | inr (inl b) ↦ h k i b g
-      | inr (inr b) ↦ beyond i (omega (arith, b, l))
-    ]
-  where
-    beyond : (j : ℕ) → length ss ≤ j → EachVar (IsMentioned m) (term_or_unit (bound_in ss j))
-    beyond j b = subst (λ (o : Option NominalTerm). EachVar (IsMentioned m) (term_or_unit o)) (sym (bound_in_beyond ss j b)) (no_var (IsMentioned m))
+all_mentioned m ss n l h = λ k i g. before_or_beyond (IsMentioned m) ss n i l (λ b. h k i b g) (cases_order i n)
 
 -- What is found at a binding.
 pub found_nothing : (P : Var → Type 0) (o : Option NominalTerm) → o ≡ None → EachVar P (term_or_unit o)

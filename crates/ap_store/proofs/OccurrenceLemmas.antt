@@ -12,7 +12,7 @@ use Rattle.ap_store.specs.declared.occurrences.Occurrence.{Occurrence}
 use Rattle.ap_store.specs.declared.occurrences.Occurrence.TheVariants as occurrences
 
 -- what is told where all was looked through
-abbrev told : Bool → Bool → Occurrence
+abbrev pub told : Bool → Bool → Occurrence
 told is_open is_far = if is_open then (if is_far then occurrences.Far else occurrences.Apart) else occurrences.Ground
 
 pub not_found : (is_open is_far : Bool) → does_occur (told is_open is_far) ≡ false

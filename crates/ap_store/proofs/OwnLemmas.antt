@@ -34,7 +34,7 @@ module _ (y : Var) where
 
   -- a part is taken apart
   module _ (vs : List Var) (bs : List Bare) (t : NominalTerm) where
-    abbrev before : Bool
+    abbrev pub before : Bool
     before = has_var y vs || (occurs y t || occurs_own y bs)
 
     pub leaf_apart : IsPartStep t steps.Leaf → (has_var y vs || occurs_own y bs) ≡ before
