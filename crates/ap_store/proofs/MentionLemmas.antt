@@ -1,6 +1,7 @@
 -- A variable that no binding mentions occurs in what a term stands for only where it does in the term itself.
 use Rattle.std.proofs.Common.{◌≡◌, ◌≢◌, ◌≤◌, ◌<◌, ◌==◌, ℕ, zero, suc, Bool, true, false, true≢false, List, [], ◌∷◌, ◌++◌, ◌+◌, ◌⊎◌, length, set, take, inl, inr, refl, sym, ap, ◌∙◌, subst, arith}
-use Rattle.std.specs.Prelude.{Err, None, Ok, OnOk, Option, Result, Some, if◌then◌else◌, not}
+use Rattle.std.specs.Global.{Global}
+use Rattle.std.specs.Prelude.{Err, IfSome, None, Ok, OnOk, Option, Result, Some, Vec, if◌then◌else◌, not}
 use Rattle.std.proofs.lemmas.Bool.{cases_order}
 use Rattle.ap_defs.specs.Freshness.{var_eq}
 use Rattle.ap_defs.specs.Substitution.{Binding, occurs, under}
@@ -147,6 +148,10 @@ not_true false h = refl
 pub on_ok : {T E : Type 0} (r : Result T E) {P Q : Type 0} → (P → Q) → OnOk r P → OnOk r Q
 on_ok (Ok x) f h = f h
 on_ok (Err e) f h = h
+
+pub some_vars : (t : NominalTerm) (o : Option (Vec Var Global)) (v : Vec Var Global) → o ≡ Some v → IfSome o (λ vars. (y : Var) → has_var y vars.items ≡ occurs y t)
+    → (y : Var) → has_var y v.items ≡ occurs y t
+some_vars t o v e h = subst (λ (q : Option (Vec Var Global)). IfSome q (λ vars. (y : Var) → has_var y vars.items ≡ occurs y t)) e h
 
 -- One more slot of a table is looked at.
 abbrev pub IsMentionedTo : Mentions → List Slot → ℕ → Type 0

@@ -152,7 +152,7 @@ impl Mentions {
         ensures stay { self.new.is_kept ≡ true → (y : variable) →
             IsMentioned self.old y → IsMentioned self.new y }
         ensures put { self.new.is_kept ≡ true → (o : option NominalTerm) →
-            IsWhatIsFound o found → is_ground_found found ≡ false →
+            IsWhatIsFound o found.entry → is_ground_found found.entry ≡ false →
             EachVar (IsMentioned self.new) (term_or_unit o) }
     {
         match found {

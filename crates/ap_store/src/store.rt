@@ -58,7 +58,8 @@ pub struct Store<'a> {
     pub ghost likened: { AreLikes (like_in likes.items)
         (changes_in table.items trail.items noted.items) empty } by { likes_prop (like_in likes.items)
             (changes_in table.items trail.items noted.items) empty },
-    pub ghost mentioned: { AreMentioned mentions table.items } by { mentioned_prop mentions table.items },
+    pub ghost mentioned: { AreMentioned mentions
+        table.items } by { mentioned_prop mentions table.items },
     pub ghost ranked: { IsRanked (raw_after (changes_in table.items trail.items noted.items) nothing_bound)
         (rank_after (changes_in table.items trail.items noted.items) empty no_rank) },
 }

@@ -1,4 +1,5 @@
 use Rattle.std.proofs.Common.{inr}
+use Rattle.std.proofs.lemmas.List.{nil_from_length}
 use Rattle.ap_store.proofs.MentionLemmas.{mark_next, mark_none}
 use Rattle.ap_store.proofs.mentions.mark_each.Goals as goal
 
@@ -15,4 +16,4 @@ pub returns-in_err-mark_one-clause-stay : goal.returns-in_err-mark_one-clause-st
 returns-in_err-mark_one-clause-stay c = λ i h. c.mark_one.ensures.stay i (c.marking.invariant.stay i h)
 
 pub returns-clause-marked : goal.returns-clause-marked
-returns-clause-marked c = λ y h. mark_none c.marking.marks.items c.marking.rest.now y c.in_default.ensures.cases (c.marking.invariant.marked y h)
+returns-clause-marked c = λ y h. mark_none c.marking.marks.items c.marking.rest.now y (nil_from_length c.marking.rest.now c.in_default.ensures.cases) (c.marking.invariant.marked y h)

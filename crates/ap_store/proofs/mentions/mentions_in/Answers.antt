@@ -1,4 +1,4 @@
-use Rattle.std.proofs.Common.{◌≡◌, ◌<◌, ◌≤◌, arith}
+use Rattle.std.proofs.Common.{◌∙◌, arith}
 use Rattle.ap_store.specs.Slots.{bound_in}
 use Rattle.ap_store.proofs.MentionLemmas.{all_mentioned, one_mentioned}
 use Rattle.ap_store.proofs.mentions.mentions_in.Goals as goal

@@ -1,7 +1,8 @@
-use Rattle.std.proofs.Common.{◌≡◌, ◌||◌, Bool, [], List, sym, ap, ◌∙◌, arith}
+use Rattle.std.proofs.Common.{◌≡◌, ◌||◌, ◌++◌, ◌∷◌, Bool, [], List, sym, ap, ap₂, ◌∙◌, arith}
 use Rattle.std.proofs.lemmas.List.{append-nil, nil_from_length}
 use Rattle.ap_defs.specs.Substitution.{occurs}
 use Rattle.ap_defs.specs.Unification.{has_var}
+use Rattle.ap_defs.specs.declared.terms.Var.{Var}
 use Rattle.ap_theory.proofs.BooleanLemmas.{or_nothing}
 use Rattle.ap_store.specs.Founds.{bare_term}
 use Rattle.ap_store.specs.Own.{occurs_own}
@@ -10,7 +11,9 @@ use Rattle.ap_store.proofs.OwnLemmas.{one_waits_own}
 use Rattle.ap_store.proofs.own.own_vars.Goals as goal
 
 pub gathering-init : goal.gathering-init
-gathering-init c = λ y. ap (occurs_own y) c.in_ok-push.ensures.items ∙ or_nothing (occurs y (bare_term c.args.first))
+gathering-init c = λ y.
+    ap₂ (λ (vs : List Var) (bs : List Bare). has_var y vs || occurs_own y bs) c.new-vars.ensures.items (c.in_ok-push.ensures.items ∙ ap (λ (bs : List Bare). bs ++ c.args.first ∷ []) c.new-waiting.ensures.items)
+    ∙ or_nothing (occurs y (bare_term c.args.first))
 
 pub gathering-preserved : goal.gathering-preserved
 gathering-preserved c = λ y.

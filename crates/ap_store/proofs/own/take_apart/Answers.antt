@@ -17,8 +17,8 @@ returns-in_ok-push-in-Inner c =
     let k = subst (λ (s : Step). IsPartStep t s) c.in-Inner.is c.step_of.ensures in
     λ y. inner_apart y c.args.vars.now.items c.args.waiting.now.items t c.in-Inner.inner c.push.new.self.items k c.in_ok-push-in-Inner.ensures.items
 
-pub returns-in_ok-push-in-Both : goal.returns-in_ok-push-in-Both
-returns-in_ok-push-in-Both c =
+pub returns-in_ok-push-in-Both-2 : goal.returns-in_ok-push-in-Both-2
+returns-in_ok-push-in-Both-2 c =
     let t = bare_term c.args.b in
     let k = subst (λ (s : Step). IsPartStep t s) c.in-Both.is c.step_of.ensures in
     λ y. both_apart y c.args.vars.now.items c.args.waiting.now.items t c.in-Both.left c.in-Both.right c.push-in-Both.new.self.items c.push-in-Both-2.new.self.items k c.in_ok-push-in-Both.ensures.items c.in_ok-push-in-Both-2.ensures.items

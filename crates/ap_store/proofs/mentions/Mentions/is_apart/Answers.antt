@@ -7,4 +7,4 @@ pub returns : goal.returns
 returns c =
     let m = c.args.self.now in
     let l : m.below ≤ c.args.x.num = omega arith in
-    λ h. (c.if-self.false, λ k. true≢false (sym (k l) ∙ sym c.is_marked.ensures ∙ not_true c.is_marked.result h))
+    λ h. (c.if-not-self.false, λ k. true≢false (sym (k l) ∙ sym c.is_marked.ensures ∙ not_true c.is_marked.result h))

@@ -18,4 +18,4 @@ returns-in-Plain-clause-put c = λ k o h g. found_plain (IsMentioned c.mention.n
 pub returns-in-Moved-clause-put : goal.returns-in-Moved-clause-put
 returns-in-Moved-clause-put c = λ k o h g.
     let (p, e) = subst (λ (f : Found). IsWhatIsFound o f) c.in-Moved.is h in
-    found_moved (IsMentioned c.mention.new.self) o p (bare_term c.in-Moved.b) e (c.mention.ensures.put k)
+    found_moved (IsMentioned c.mention-in-Moved.new.self) o p (bare_term c.in-Moved.b) e (c.mention-in-Moved.ensures.put k)

@@ -1,5 +1,5 @@
 use Rattle.std.proofs.Common.{◌≡◌, ◌≤◌, ◌-◌, ◌++◌, [], ◌∷◌, List, length, take, min, refl, ap, sym, subst, ◌∙◌, arith}
-use Rattle.std.specs.Prelude.{None}
+use Rattle.std.specs.Prelude.{None, false}
 use Rattle.ap_store.specs.Changes.{Made, empty, present_after}
 use Rattle.ap_store.specs.Likes.{like_in}
 use Rattle.ap_store.specs.Marks.{ground_in}
