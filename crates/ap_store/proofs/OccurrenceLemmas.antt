@@ -1,5 +1,5 @@
 -- What is found of a variable in a term tells what was not found.
-use Rattle.std.proofs.Common.{◌≡◌, ◌⊎◌, ◌∙◌, ℕ, List, Bool, true, false, true≢false, inl, inr, refl, sym, ap}
+use Rattle.std.proofs.Common.{◌≡◌, ℕ, List, Bool, true, false, true≢false, refl, sym, ap}
 use Rattle.std.specs.Prelude.{if◌then◌else◌}
 use Rattle.ap_defs.specs.Renaming.{rename_term}
 use Rattle.ap_defs.specs.Substitution.{Binding, occurs, under}
@@ -77,19 +77,6 @@ var_or v (occurrences.Like w) = w
 
 pub same_like : (u w : Var) → occurrences.Like u ≡ occurrences.Like w → u ≡ w
 same_like u w e = ap (var_or u) e
-
--- what is told behind a variable
-pub behind_apart : (w : Var) (o : Occurrence) → (o ≡ occurrences.Apart) ⊎ (o ≡ occurrences.Like w) → does_occur o ≡ false
-behind_apart w o (inl e) = ap does_occur e
-behind_apart w o (inr e) = ap does_occur e
-
-pub behind_not_ground : (w : Var) (o : Occurrence) → (o ≡ occurrences.Apart) ⊎ (o ≡ occurrences.Like w) → o ≡ occurrences.Ground → ⊥
-behind_not_ground w o (inl e) k = apart_not_ground (sym e ∙ k)
-behind_not_ground w o (inr e) k = like_not_ground w (sym e ∙ k)
-
-pub behind_like : (w v : Var) (o : Occurrence) → (o ≡ occurrences.Apart) ⊎ (o ≡ occurrences.Like w) → o ≡ occurrences.Like v → w ≡ v
-behind_like w v o (inl e) k = absurd (apart_not_like v (sym e ∙ k))
-behind_like w v o (inr e) k = same_like w v (sym e ∙ k)
 
 -- a constant has no variables, whatever acts on it and is bound
 pub constant_no_vars : (s : List Binding) (p : List Swap) (base : ℕ) (t : NominalTerm) → IsConstant t → HasNoVars (under s (act_term p (rename_term base t)))

@@ -106,7 +106,7 @@ fn both(left: Alone, right: Alone) -> Alone
 
 /// The variables that are left in a term, whose left parts have no pairs; of others it is not known. It takes no
 /// memory.
-pub(crate) fn alone_in(store: &Store<'_>, b: Bare<'_>) -> Alone
+fn alone_in(store: &Store<'_>, b: Bare<'_>) -> Alone
     ensures { IsAlone (bindings_of store.now) (bare_term b.entry) result }
 {
     let Bare { base, end, .. } = b;

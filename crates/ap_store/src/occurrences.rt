@@ -11,7 +11,7 @@ ghost use Rattle.ap_store.specs.Slots.{var_at};
 ghost use Rattle.ap_store.specs.Views.{bindings_of, meaning_in};
 
 use crate::bare::Bare;
-use crate::beside::occurs_beside;
+use crate::beside::occurs_open;
 use crate::likes::Like;
 use crate::narrow::{Narrowed, narrow_down};
 use crate::passed::{Passed, is_passed, pass};
@@ -22,15 +22,15 @@ use ap_defs::terms::{Term, Var};
 use ap_perm::closures::Closure;
 use std::alloc::Global;
 
-/// Whether a variable occurs in a term: it does; it doesn't; it doesn't, which took a long look; no variable stands
-/// there at all; or it doesn't, and those that stand there are those of one variable.
+/// Whether a variable occurs in a term: it does; it doesn't; no variable stands there at all; it doesn't, and those
+/// that stand there are those of one variable; or it doesn't, which took a long look.
 #[derive(Clone, Copy)]
 pub enum Occurrence {
     Occurs,
     Apart,
-    Far,
     Ground,
     Like(Var),
+    Far,
 }
 
 impl Occurrence {
@@ -51,6 +51,14 @@ impl Occurrence {
     /// Whether the look was long.
     pub(crate) fn is_far(self) -> bool {
         matches!(self, Occurrence::Far)
+    }
+
+    /// Whether nothing is to be kept of the look.
+    pub(crate) fn is_plain(self) -> bool {
+        matches!(
+            self,
+            Occurrence::Occurs | Occurrence::Apart | Occurrence::Ground
+        )
     }
 
     /// What is kept beside a variable that is bound to such a term.
@@ -194,7 +202,7 @@ pub(crate) fn step_of<'a>(b: Bare<'a>) -> Step<'a>
 /// ones are looked through, so a term may be deep on either side. Once many variables were gone through they are
 /// marked, so that a term which has them in many places takes no longer than one which has them once.
 #[tactic(auto, using(crate::proofs::PassedLemmas::left_first))]
-fn occurs_below<'a>(
+pub(crate) fn occurs_below<'a>(
     alloc: Global,
     store: &Store<'a>,
     x: Var,
@@ -274,7 +282,7 @@ fn told_of(found: Occurrence, like: Option<Var>) -> Occurrence
 /// Whether a variable occurs in what a part stands for: where it may be in the variables of a single one only, in
 /// what that stands for.
 #[inline(never)]
-pub(crate) fn occurs_in_part<'a>(
+fn occurs_in_part<'a>(
     alloc: Global,
     store: &Store<'a>,
     x: Var,
@@ -291,31 +299,10 @@ pub(crate) fn occurs_in_part<'a>(
         Narrowed::Ground => Ok(Occurrence::Ground),
         Narrowed::Ends(w, is_behind) => Ok(at_end(x, w, is_behind)),
         Narrowed::Goes(like, b) => {
-            let found = occurs_below(alloc, store, x, b)?;
+            let found = occurs_open(alloc, store, x, first, b)?;
             Ok(told_of(found, like))
         }
     }
-}
-
-/// Whether a variable occurs in what a part stands for.
-#[inline(always)]
-fn occurs_there<'a>(
-    alloc: Global,
-    store: &Store<'a>,
-    x: Var,
-    first: Bare<'a>,
-) -> Result<Occurrence, Memory>
-    ensures found { IfOk result (λ o. does_occur o ≡ occurs_in store.now x first.entry) }
-    ensures no_vars { IfOk result (λ o. o ≡ Occurrence.Ground →
-        HasNoVars (under (bindings_of store.now) (bare_term first.entry))) }
-    ensures like { IfOk result (λ o. (w : variable) → o ≡ Occurrence.Like w →
-        HaveSameVars (under (bindings_of store.now) (bare_term first.entry))
-        (under (bindings_of store.now) (susp [] w))) }
-{
-    if store.keeps_mentions() {
-        return occurs_beside(alloc, store, x, first);
-    }
-    occurs_in_part(alloc, store, x, first)
 }
 
 /// Whether a term is the one without parts.
@@ -360,7 +347,7 @@ impl<'a> Store<'a> {
             end: c.end,
             term: c.term,
         };
-        let found = occurs_there(alloc, self, x, first)?;
+        let found = occurs_in_part(alloc, self, x, first)?;
         Ok(found)
     }
 }

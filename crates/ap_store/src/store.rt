@@ -191,12 +191,11 @@ impl<'a> Store<'a> {
             return Err(Memory);
         }
         let value = plain_value(base as u32, term, found.is_ground());
-        let like = found.like();
         if self.is_ready(x, found) {
-            self.note_binding(x, value, end, like);
+            self.note_binding(x, value, end, Like::Nothing);
             return Ok(());
         }
-        self.note_with_room(x, value, end, like, found.is_far())
+        self.note_with_room(x, value, end, found.like(), found.is_far())
     }
 
     /// Adds conditions on unbound variables. After want of memory the store is as before.

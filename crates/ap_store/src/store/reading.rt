@@ -93,7 +93,7 @@ impl<'a> Store<'a> {
     }
 
     /// Whether there is room for one more change, nothing to let go at the number of a variable, and nothing to be
-    /// mentioned.
+    /// mentioned nor kept beside it.
     #[inline(always)]
     pub(super) fn is_ready(&self, x: Var, found: Occurrence) -> bool
         requires { x.num < (present self.now).next }
@@ -101,7 +101,7 @@ impl<'a> Store<'a> {
         ensures unkept { result ≡ true → self.now.mentions.is_kept ≡ false }
     {
         !self.mentions.is_kept
-            && !found.is_far()
+            && found.is_plain()
             && self.trail.len() < self.trail.capacity()
             && matches!(self.table[x.num as usize].value, Value::Unbound)
     }
