@@ -47,7 +47,7 @@ returns-in-Ends-clause-like c =
 pub occurs_open-requires : goal.occurs_open-requires
 occurs_open-requires c =
     let s = c.args.store.now in
-    goes_same s (bare_term c.args.first) c.in-Goes.like c.in-Goes.b (subst (IsNarrowed s (bare_term c.args.first)) c.in-Goes.is c.narrow_down.ensures)
+    record { same = goes_same s (bare_term c.args.first) c.in-Goes.like c.in-Goes.b (subst (IsNarrowed s (bare_term c.args.first)) c.in-Goes.is c.narrow_down.ensures) }
 
 pub returns-in_ok-found-in-Goes-clause-found : goal.returns-in_ok-found-in-Goes-clause-found
 returns-in_ok-found-in-Goes-clause-found c =
