@@ -14,6 +14,8 @@ pub mod FollowLemmas
 mod HeadLemmas
 pub mod ReachLemmas
 pub mod OccurrenceLemmas
+mod OwnLemmas
+mod MentionLemmas
 mod WaitingLemmas
 pub mod PassedLemmas
 mod NarrowLemmas

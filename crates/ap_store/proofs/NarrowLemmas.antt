@@ -11,7 +11,7 @@ use Rattle.ap_defs.specs.declared.terms.Term.TheVariants as code
 use Rattle.ap_defs.specs.declared.terms.Var.{Var}
 use Rattle.ap_theory.proofs.BooleanLemmas.{or_assoc, or_nothing}
 use Rattle.ap_store.proofs.BindLemmas.{occurs_moved}
-use Rattle.ap_store.proofs.OccurrenceLemmas.{apart_not_ground, apart_not_like, like_not_ground, occurs_not_ground, occurs_not_like}
+use Rattle.ap_store.proofs.OccurrenceLemmas.{apart_not_ground, apart_not_like, like_not_ground, occurs_not_ground, occurs_not_like, same_like}
 use Rattle.ap_store.specs.Founds.{bare_term, does_occur}
 use Rattle.ap_store.specs.Likes.{HaveSameVars}
 use Rattle.ap_store.specs.Marks.{HasNoVars}
@@ -21,7 +21,6 @@ use Rattle.ap_store.specs.declared.bare.Bare.{Bare}
 use Rattle.ap_store.specs.declared.narrow.Alone.{Alone}
 use Rattle.ap_store.specs.declared.narrow.Alone.TheVariants as alone
 use Rattle.ap_store.specs.declared.narrow.Narrowed.TheVariants as results
-use Rattle.ap_store.specs.declared.occurrences.Occurrence.{Occurrence}
 use Rattle.ap_store.specs.declared.occurrences.Occurrence.TheVariants as occurrences
 use Rattle.ap_store.specs.declared.store.Store.{Store}
 
@@ -87,13 +86,4 @@ end_not_ground false false w e = apart_not_ground e
 pub end_like : (b f : Bool) (w v : Var) → (if b then occurrences.Occurs else (if f then occurrences.Like w else occurrences.Apart)) ≡ occurrences.Like v → w ≡ v
 end_like true f w v e = absurd (occurs_not_like v e)
 end_like false true w v e = same_like w v e
-  where
-    var_or : Var → Occurrence → Var
-    var_or u occurrences.Occurs = u
-    var_or u occurrences.Apart = u
-    var_or u occurrences.Ground = u
-    var_or u (occurrences.Like z) = z
-
-    same_like : (u z : Var) → occurrences.Like u ≡ occurrences.Like z → u ≡ z
-    same_like u z h = ap (var_or u) h
 end_like false false w v e = absurd (apart_not_like v e)

@@ -27,7 +27,7 @@ use Rattle.ap_store.specs.declared.slots.Value.TheVariants.{Unbound, Plain, Grou
 use Rattle.ap_store.specs.declared.slots.Slot.{Slot}
 use Rattle.ap_store.specs.declared.store.Store.{Store}
 
-var_below : (m : ℕ) (t : NominalTerm) → IsBelow m t → (y : Var) → occurs y t ≡ true → y.num < m
+pub var_below : (m : ℕ) (t : NominalTerm) → IsBelow m t → (y : Var) → occurs y t ≡ true → y.num < m
 var_below m unit h y o = cc
 var_below m (name a) h y o = cc
 var_below m (pair t u) h y o = elim (or_cases (occurs y t) (occurs y u) o) [ inl i ↦ var_below m t h.0 y i | inr i ↦ var_below m u h.1 y i ]
@@ -35,50 +35,52 @@ var_below m (app f t) h y o = var_below m t h y o
 var_below m (abs a t) h y o = var_below m t h.1 y o
 var_below m (susp p x) h y o = let e : y.num ≡ x.num = ap (λ (z : Var). z.num) (var_same y x o) in omega (arith, e, h.1)
 
+-- Where each variable of what is bound has a property, so has each of what a term with such variables stands for.
+module _ (P : Var → Type 0) where
+  abbrev pub BindsEach : List Binding → Type 0
+  BindsEach [] = Unit {0}
+  BindsEach ((x := t) ∷ bs) = EachVar P t × BindsEach bs
+
+  suspension_each : (bs : List Binding) → BindsEach bs → (p : List Swap) (x : Var) → P x → EachVar P (under bs (susp p x))
+  suspension_each [] h p x l = each_susp P p x l
+  suspension_each ((y := t) ∷ bs) h p x l =
+      elim (var_eq x y) as (λ b. var_eq x y ≡ b → EachVar P (under ((y := t) ∷ bs) (susp p x))) [
+        | true ↦ λ e. rw e (each_act P p t h.0)
+        | false ↦ λ e. rw e (suspension_each bs h.1 p x l)
+      ] refl
+
+  pub under_each : (bs : List Binding) → BindsEach bs → (t : NominalTerm) → EachVar P t → EachVar P (under bs t)
+  under_each bs h unit k = λ y o. cc
+  under_each bs h (name a) k = λ y o. cc
+  under_each bs h (pair t u) k = each_pair P (under bs t) (under bs u) (under_each bs h t (each_left P t u k)) (under_each bs h u (each_right P t u k))
+  under_each bs h (app f t) k = under_each bs h t k
+  under_each bs h (abs a t) k = under_each bs h t k
+  under_each bs h (susp p x) k = suspension_each bs h p x (k x (same_var x x refl))
+
+  pub put_each : (x : Var) (v : NominalTerm) → EachVar P v → (bs : List Binding) → BindsEach bs → BindsEach (map (put_binding x v) bs)
+  put_each x v h [] k = tt
+  put_each x v h ((y := t) ∷ bs) k = (each_put P P x v (λ z l d. l) h t k.0, put_each x v h bs k.1)
+
 module _ (n : ℕ) where
   abbrev IsOlder : Var → Type 0
   IsOlder y = y.num < n
-
-  abbrev BindsOlder : List Binding → Type 0
-  BindsOlder [] = Unit {0}
-  BindsOlder ((x := t) ∷ bs) = EachVar IsOlder t × BindsOlder bs
 
   closure_older : (c : Closure) → c.end ≤ n → EachVar IsOlder (closure_term c)
   closure_older c l y o =
       let k : y.num < c.end = var_below c.end (rename_term c.base (term_of c.term.now)) c.below y (sym (occurs_act y c.swaps.items (rename_term c.base (term_of c.term.now))) ∙ o) in
       omega arith
 
-  suspension_older : (bs : List Binding) → BindsOlder bs → (p : List Swap) (x : Var) → IsOlder x → EachVar IsOlder (under bs (susp p x))
-  suspension_older [] h p x l = each_susp IsOlder p x l
-  suspension_older ((y := t) ∷ bs) h p x l =
-      elim (var_eq x y) as (λ b. var_eq x y ≡ b → EachVar IsOlder (under ((y := t) ∷ bs) (susp p x))) [
-        | true ↦ λ e. rw e (each_act IsOlder p t h.0)
-        | false ↦ λ e. rw e (suspension_older bs h.1 p x l)
-      ] refl
-
-  under_older : (bs : List Binding) → BindsOlder bs → (t : NominalTerm) → EachVar IsOlder t → EachVar IsOlder (under bs t)
-  under_older bs h unit k = λ y o. cc
-  under_older bs h (name a) k = λ y o. cc
-  under_older bs h (pair t u) k = each_pair IsOlder (under bs t) (under bs u) (under_older bs h t (each_left IsOlder t u k)) (under_older bs h u (each_right IsOlder t u k))
-  under_older bs h (app f t) k = under_older bs h t k
-  under_older bs h (abs a t) k = under_older bs h t k
-  under_older bs h (susp p x) k = suspension_older bs h p x (k x (same_var x x refl))
-
-  put_older : (x : Var) (v : NominalTerm) → EachVar IsOlder v → (bs : List Binding) → BindsOlder bs → BindsOlder (map (put_binding x v) bs)
-  put_older x v h [] k = tt
-  put_older x v h ((y := t) ∷ bs) k = (each_put IsOlder IsOlder x v (λ z l d. l) h t k.0, put_older x v h bs k.1)
-
   abbrev EachBoundOlder : List Change → Type 0
   EachBoundOlder [] = Unit {0}
   EachBoundOlder (Bound x t ∷ cs) = EachVar IsOlder t × EachBoundOlder cs
   EachBoundOlder (c ∷ cs) = EachBoundOlder cs
 
-  older_after : (cs : List Change) (a : Triple) → EachBoundOlder cs → BindsOlder a.bindings → BindsOlder (present_after cs a).bindings
+  older_after : (cs : List Change) (a : Triple) → EachBoundOlder cs → BindsEach IsOlder a.bindings → BindsEach IsOlder (present_after cs a).bindings
   older_after [] a l h = h
   older_after (Made m ∷ cs) a l h = older_after cs (after (Made m) a) l h
   older_after (Bound x t ∷ cs) a l h =
-      let v : EachVar IsOlder (under a.bindings t) = under_older a.bindings h t l.0 in
-      older_after cs (after (Bound x t) a) l.1 (v, put_older x (under a.bindings t) v a.bindings h)
+      let v : EachVar IsOlder (under a.bindings t) = under_each IsOlder a.bindings h t l.0 in
+      older_after cs (after (Bound x t) a) l.1 (v, put_each IsOlder x (under a.bindings t) v a.bindings h)
   older_after (Added c ∷ cs) a l h = older_after cs (after (Added c) a) l h
   older_after (Taken x es ∷ cs) a l h = older_after cs (after (Taken x es) a) l h
 
@@ -154,5 +156,5 @@ pub new_is_absent : (s : Store) (x : Var) (c : Closure) → s.reach ≤ x.num �
 new_is_absent s x c l k =
     let kept = all_kept_rises s.reach x.num l s.table.items s.stored.4 in
     let h = older_after x.num (changes s) empty (changes_older x.num s.table.items s.trail.items s.noted.items kept) tt in
-    let each = under_older x.num (bindings_of s) h (closure_term c) (closure_older x.num c k) in
+    let each = under_each (IsOlder x.num) (bindings_of s) h (closure_term c) (closure_older x.num c k) in
     false_if_not (occurs x (meaning_in s c)) (λ o. let e : x.num < x.num = each x o in absurd (omega arith))

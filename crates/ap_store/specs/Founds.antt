@@ -77,5 +77,6 @@ IsPartStep t (steps.Variable x) = (q : List Swap) × (t ≡ susp q x)
 abbrev pub does_occur : Occurrence → Bool
 does_occur occurrences.Occurs = true
 does_occur occurrences.Apart = false
+does_occur occurrences.Far = false
 does_occur occurrences.Ground = false
 does_occur (occurrences.Like w) = false

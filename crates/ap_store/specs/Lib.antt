@@ -7,7 +7,9 @@ pub mod Trails
 pub mod Slots
 pub mod Marks
 pub mod Likes
+pub mod Mentions
 pub mod Passed
 pub mod Founds
 pub mod Narrow
+pub mod Own
 pub mod Views

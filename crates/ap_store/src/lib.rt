@@ -3,14 +3,17 @@
 #![tactic(auto)]
 
 pub mod bare;
+mod beside;
 pub mod changes;
 mod following;
 pub mod heads;
 mod held;
 mod likes;
 mod lookups;
+mod mentions;
 mod narrow;
 pub mod occurrences;
+mod own;
 mod passed;
 pub mod slots;
 pub mod store;

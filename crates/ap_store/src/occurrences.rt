@@ -11,6 +11,7 @@ ghost use Rattle.ap_store.specs.Slots.{var_at};
 ghost use Rattle.ap_store.specs.Views.{bindings_of, meaning_in};
 
 use crate::bare::Bare;
+use crate::beside::occurs_open;
 use crate::likes::Like;
 use crate::narrow::{Narrowed, narrow_down};
 use crate::passed::{Passed, is_passed, pass};
@@ -21,14 +22,15 @@ use ap_defs::terms::{Term, Var};
 use ap_perm::closures::Closure;
 use std::alloc::Global;
 
-/// Whether a variable occurs in a term: it does; it doesn't; no variable stands there at all; or it doesn't, and
-/// those that stand there are those of one variable.
+/// Whether a variable occurs in a term: it does; it doesn't; no variable stands there at all; it doesn't, and those
+/// that stand there are those of one variable; or it doesn't, which took a long look.
 #[derive(Clone, Copy)]
 pub enum Occurrence {
     Occurs,
     Apart,
     Ground,
     Like(Var),
+    Far,
 }
 
 impl Occurrence {
@@ -44,6 +46,19 @@ impl Occurrence {
         ensures { IsTrue result ↔ (self ≡ Occurrence.Ground) }
     {
         matches!(self, Occurrence::Ground)
+    }
+
+    /// Whether the look was long.
+    pub(crate) fn is_far(self) -> bool {
+        matches!(self, Occurrence::Far)
+    }
+
+    /// Whether nothing is to be kept of the look.
+    pub(crate) fn is_plain(self) -> bool {
+        matches!(
+            self,
+            Occurrence::Occurs | Occurrence::Apart | Occurrence::Ground
+        )
     }
 
     /// What is kept beside a variable that is bound to such a term.
@@ -128,12 +143,26 @@ fn seen_once<'a>(store: &Store<'a>, passed: &Passed, x: Var) -> Once<'a>
     }
 }
 
-/// A variable does not occur where all was looked through; unbound ones may have been seen.
-fn without(is_open: bool) -> Occurrence
-    ensures { result ≡ (if is_open then Occurrence.Apart else Occurrence.Ground) }
+/// A look that goes through so many bound variables is long.
+const FAR: usize = 512;
+
+/// Whether a look was so long that mentions should be kept, and are not.
+fn was_long(store: &Store<'_>, passed: &Passed) -> bool {
+    passed.count >= FAR && !store.keeps_mentions()
+}
+
+/// A variable does not occur where all was looked through; unbound ones may have been seen, and the look may have
+/// been long.
+fn without(is_open: bool, is_far: bool) -> Occurrence
+    ensures { result ≡ (if is_open then (if is_far then Occurrence.Far else Occurrence.Apart)
+        else Occurrence.Ground) }
 {
     if is_open {
-        Occurrence::Apart
+        if is_far {
+            Occurrence::Far
+        } else {
+            Occurrence::Apart
+        }
     } else {
         Occurrence::Ground
     }
@@ -150,7 +179,7 @@ pub enum Step<'a> {
 }
 
 /// What a part begins with. It takes no memory.
-fn step_of<'a>(b: Bare<'a>) -> Step<'a>
+pub(crate) fn step_of<'a>(b: Bare<'a>) -> Step<'a>
     ensures { IsPartStep (bare_term b.entry) result }
 {
     let _end = b.end;
@@ -173,7 +202,7 @@ fn step_of<'a>(b: Bare<'a>) -> Step<'a>
 /// ones are looked through, so a term may be deep on either side. Once many variables were gone through they are
 /// marked, so that a term which has them in many places takes no longer than one which has them once.
 #[tactic(auto, using(crate::proofs::PassedLemmas::left_first))]
-fn occurs_below<'a>(
+pub(crate) fn occurs_below<'a>(
     alloc: Global,
     store: &Store<'a>,
     x: Var,
@@ -216,7 +245,7 @@ fn occurs_below<'a>(
             },
         }
         let Some(next) = waiting.pop() else {
-            return Ok(without(is_open));
+            return Ok(without(is_open, was_long(store, &passed)));
         };
         here = next;
     }
@@ -270,7 +299,7 @@ fn occurs_in_part<'a>(
         Narrowed::Ground => Ok(Occurrence::Ground),
         Narrowed::Ends(w, is_behind) => Ok(at_end(x, w, is_behind)),
         Narrowed::Goes(like, b) => {
-            let found = occurs_below(alloc, store, x, b)?;
+            let found = occurs_open(alloc, store, x, first, b)?;
             Ok(told_of(found, like))
         }
     }

@@ -4,15 +4,18 @@ ghost use Rattle.ap_perm.specs.Lookups.{IsRanked};
 ghost use Rattle.ap_store.specs.Changes.{empty};
 ghost use Rattle.ap_store.specs.Likes.{AreLikes, like_in, likes_prop};
 ghost use Rattle.ap_store.specs.Marks.{AreGroundMarks, ground_in, marks_prop};
+ghost use Rattle.ap_store.specs.Mentions.{AreMentioned, mentioned_prop};
 ghost use Rattle.ap_store.specs.Slots.{AreHeld, IsStored, changes_in, held_prop, stored_prop};
 ghost use Rattle.ap_store.specs.Trails.{no_rank, nothing_bound, rank_after, raw_after};
 
+mod mentioning;
 mod reading;
 
 use crate::changes::{Entry, Noted};
 use crate::heads::kept_behind;
 use crate::held::{held_of, hold, let_go, put_back, take_out};
 use crate::likes::{Like, keep_like};
+use crate::mentions::Mentions;
 use crate::occurrences::Occurrence;
 use crate::slots::{Slot, Value, plain_value, value_of};
 use crate::tables::{add_slots, put_value};
@@ -36,7 +39,8 @@ pub struct Mark {
 /// earlier triples, and the list of kinds. There each binding is carried out in the others; what is
 /// kept of it is the closure alone, in the table. All that is bound is below `reach`. What is marked stood for a
 /// term without variables when it was bound, and so does since. The variable in `likes` beside a bound one stood
-/// for a term with the same variables, and maybe the same head, when that was bound, and so does since.
+/// for a term with the same variables, and maybe the same head, when that was bound, and so does since. While
+/// mentions are kept, they have the variables of what is bound.
 #[derive(Drop)]
 pub struct Store<'a> {
     table: Vec<Slot<'a>>,
@@ -45,6 +49,7 @@ pub struct Store<'a> {
     noted: Vec<Noted>,
     likes: Vec<Like>,
     reach: u64,
+    mentions: Mentions,
     pub ghost stored: { IsStored table.items trail.items noted.items reach } by { stored_prop table.items trail.items noted.items reach },
     pub ghost holds: { AreHeld held.items (changes_in table.items trail.items noted.items) } by { held_prop held.items (changes_in table.items trail.items noted.items) },
     pub ghost marked: { AreGroundMarks (ground_in table.items)
@@ -53,6 +58,8 @@ pub struct Store<'a> {
     pub ghost likened: { AreLikes (like_in likes.items)
         (changes_in table.items trail.items noted.items) empty } by { likes_prop (like_in likes.items)
             (changes_in table.items trail.items noted.items) empty },
+    pub ghost mentioned: { AreMentioned mentions
+        table.items } by { mentioned_prop mentions table.items },
     pub ghost ranked: { IsRanked (raw_after (changes_in table.items trail.items noted.items) nothing_bound)
         (rank_after (changes_in table.items trail.items noted.items) empty no_rank) },
 }
@@ -66,10 +73,11 @@ impl<'a> Store<'a> {
     ghost use Rattle.ap_defs.specs.Types.{locals_of};
     ghost use Rattle.ap_defs.specs.declared.terms.Var.{Var as variable};
     ghost use Rattle.ap_perm.specs.Closures.{closure_term};
-    ghost use Rattle.ap_theory.specs.Variables.{IsUnbound};
+    ghost use Rattle.ap_theory.specs.Variables.{EachVar, IsUnbound};
     ghost use Rattle.ap_store.specs.Changes.{has_on, replace_conditions, with_bound};
     ghost use Rattle.ap_store.specs.Likes.{HaveSameVars, IsAlike};
     ghost use Rattle.ap_store.specs.Marks.{HasNoVars, is_ground_value};
+    ghost use Rattle.ap_store.specs.Mentions.{IsMentioned};
     ghost use Rattle.ap_store.specs.Slots.{IsKeptBelow, value_term, kept_term};
     ghost use Rattle.ap_store.specs.Triples.{AreOnUnbound, IsPrefixOf, is_apart, is_on, with_binding, with_conditions, with_next};
     ghost use Rattle.ap_store.specs.Views.{IsUnchanged, bindings_of, kinds, meaning_in, past, present, versions};
@@ -87,6 +95,7 @@ impl<'a> Store<'a> {
             noted: Vec::new(alloc),
             likes: Vec::new(alloc),
             reach: 0,
+            mentions: Mentions::new(alloc),
         }
     }
 
@@ -142,6 +151,7 @@ impl<'a> Store<'a> {
         let like = kept_behind(self, &c);
         let value = value_of(alloc, c, is_ground)?;
         let taken = self.take_conditions(alloc, x)?;
+        self.mention(x, &value, end);
         self.note_binding(x, value, end, like);
         Ok(taken)
     }
@@ -181,12 +191,11 @@ impl<'a> Store<'a> {
             return Err(Memory);
         }
         let value = plain_value(base as u32, term, found.is_ground());
-        let like = found.like();
-        if self.is_ready(x) {
-            self.note_binding(x, value, end, like);
+        if self.is_ready(x, found) {
+            self.note_binding(x, value, end, Like::Nothing);
             return Ok(());
         }
-        self.note_with_room(x, value, end, like)
+        self.note_with_room(x, value, end, found.like(), found.is_far())
     }
 
     /// Adds conditions on unbound variables. After want of memory the store is as before.
@@ -311,6 +320,8 @@ impl<'a> Store<'a> {
             HasNoVars (under (bindings_of self.old) (kept_term value)) }
         requires like { IsAlike like (bindings_of self.old) (kept_term value) }
         requires apart { has_on x (present self.old).conditions ≡ false }
+        requires mentioned { self.old.mentions.is_kept ≡ true → is_ground_value value ≡ false →
+            EachVar (IsMentioned self.old.mentions) (kept_term value) }
         ensures present { present self.new
             ≡ with_bound x (under (bindings_of self.old) (kept_term value.entry)) (present self.old) }
         ensures versions { versions self.new ≡ versions self.old ++ present self.new ∷ [] }
@@ -320,38 +331,6 @@ impl<'a> Store<'a> {
         self.reach = self.reach.max(end);
         self.trail.push_reserved(Entry::Bound(x.num as u32));
         keep_like(&mut self.likes, x.num as usize, like);
-    }
-
-    /// As `note_binding`, once there is room. After want of memory the store is as before.
-    #[cold]
-    #[inline(never)]
-    fn note_with_room(
-        &mut self,
-        x: Var,
-        value: Value<'a>,
-        end: u64,
-        like: Like,
-    ) -> Result<(), Memory>
-        requires made { x.num < (present self.old).next }
-        requires unbound { IsUnbound (bindings_of self.old) x }
-        requires bound { value_term value ≡ Some (kept_term value) }
-        requires term { IsBelow (present self.old).next (kept_term value) }
-        requires within { IsKeptBelow end value }
-        requires absent { occurs x (under (bindings_of self.old) (kept_term value)) ≡ false }
-        requires mark { is_ground_value value ≡ true →
-            HasNoVars (under (bindings_of self.old) (kept_term value)) }
-        requires like { IsAlike like (bindings_of self.old) (kept_term value) }
-        requires apart { has_on x (present self.old).conditions ≡ false }
-        ensures present { OnOk result (present self.new
-            ≡ with_bound x (under (bindings_of self.old) (kept_term value.entry)) (present self.old)) }
-        ensures versions { OnOk result (versions self.new
-            ≡ versions self.old ++ present self.new ∷ []) }
-        ensures kinds { kinds self.new ≡ kinds self.old }
-        ensures unchanged { OnErr result (IsUnchanged self.old self.new) }
-    {
-        self.make_room()?;
-        self.note_binding(x, value, end, like);
-        Ok(())
     }
 
     /// Notes that the conditions on a variable are taken out.

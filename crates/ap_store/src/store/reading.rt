@@ -4,6 +4,8 @@ use super::Store;
 use crate::bare::Bare;
 use crate::held::{held_of, set_of};
 use crate::likes::{Like, like_of};
+use crate::mentions::{FEW, MANY};
+use crate::occurrences::Occurrence;
 use crate::slots::{Found, Value};
 use crate::tables::{bound_at, found_at};
 use ap_defs::goals::Kind;
@@ -15,7 +17,7 @@ use std::alloc::Global;
 impl<'a> Store<'a> {
     ghost use Rattle.std.specs.Prelude.{◌≡◌, ◌<◌, [], false, true, Some, None, IfOk, MatchOption, is_some, slice_get, vec_len, vec_capacity};
     ghost use Rattle.ap_defs.specs.Substitution.{occurs, under};
-    ghost use Rattle.ap_defs.specs.Terms.{susp};
+    ghost use Rattle.ap_defs.specs.Terms.{NominalTerm, susp};
     ghost use Rattle.ap_defs.specs.Types.{kind_of};
     ghost use Rattle.ap_perm.specs.Closures.{lent_term};
     ghost use Rattle.ap_store.specs.Changes.{has_on};
@@ -90,14 +92,42 @@ impl<'a> Store<'a> {
         !held_of(&self.held, x.num as usize).is_empty()
     }
 
-    /// Whether there is room for one more change, and nothing to let go at the number of a variable.
+    /// Whether there is room for one more change, nothing to let go at the number of a variable, and nothing to be
+    /// mentioned nor kept beside it.
     #[inline(always)]
-    pub(super) fn is_ready(&self, x: Var) -> bool
+    pub(super) fn is_ready(&self, x: Var, found: Occurrence) -> bool
         requires { x.num < (present self.now).next }
-        ensures { result ≡ true → vec_len self.now.trail < vec_capacity self.now.trail }
+        ensures room { result ≡ true → vec_len self.now.trail < vec_capacity self.now.trail }
+        ensures unkept { result ≡ true → self.now.mentions.is_kept ≡ false }
     {
-        self.trail.len() < self.trail.capacity()
+        !self.mentions.is_kept
+            && found.is_plain()
+            && self.trail.len() < self.trail.capacity()
             && matches!(self.table[x.num as usize].value, Value::Unbound)
+    }
+
+    /// Whether it is kept which variables bindings mention. It takes no memory.
+    #[inline(always)]
+    pub(crate) fn keeps_mentions(&self) -> bool {
+        self.mentions.is_kept
+    }
+
+    /// Whether it is known that no binding mentions a variable, so that it occurs in what a term stands for only where
+    /// it does in the term itself. It takes no memory.
+    pub(crate) fn is_unmentioned(&self, x: Var) -> bool
+        ensures { (t : NominalTerm) → result ≡ true → occurs x t ≡ false →
+            occurs x (under (bindings_of self.now) t) ≡ false }
+    {
+        self.mentions.is_apart(x)
+    }
+
+    /// Up to how many parts of a binding of a variable are looked at to mention what is in it.
+    pub(super) fn most_of(&self, x: Var, end: u64) -> usize {
+        if self.reach <= x.num && end <= x.num {
+            FEW
+        } else {
+            MANY
+        }
     }
 
     /// Whether the variable is so new that neither the closure nor any bound one can have it.

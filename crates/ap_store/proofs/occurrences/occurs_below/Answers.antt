@@ -110,7 +110,7 @@ pub returns-then-x-y-clause-like : goal.returns-then-x-y-clause-like
 returns-then-x-y-clause-like c = λ w e. occurs_not_like w e
 
 pub returns-in_default-clause-like : goal.returns-in_default-clause-like
-returns-in_default-clause-like c = λ w e. without_like c.match-step_of.is_open w (sym c.without.ensures ∙ e)
+returns-in_default-clause-like c = λ w e. without_like c.match-step_of.is_open c.was_long.result w (sym c.without.ensures ∙ e)
 
 pub returns-in_default-clause-found : goal.returns-in_default-clause-found
 returns-in_default-clause-found c =
@@ -128,7 +128,7 @@ returns-in_default-clause-found c =
           nothing_here s c.seeking.passed t v.0 w.in-Variable.y x ws v.1 (subst (IsOnce s w.in-Variable.y c.seeking.passed) w.in-Nothing.is w.seen_once.ensures) (c.seeking.invariant.passed x (λ o. refl))
       | in-Leaf w ↦ let k : IsPartStep t steps.Leaf = subst (IsPartStep t) w.in-Leaf.is c.step_of.ensures in spent_apart s x t ws (k (bindings_of s) x)
     ] in
-    ap does_occur c.without.ensures ∙ not_found c.match-step_of.is_open ∙ none_spent s x t ws none spent ∙ c.seeking.invariant.all x (λ o. refl)
+    ap does_occur c.without.ensures ∙ not_found c.match-step_of.is_open c.was_long.result ∙ none_spent s x t ws none spent ∙ c.seeking.invariant.all x (λ o. refl)
 
 pub returns-in_default-clause-no_vars : goal.returns-in_default-clause-no_vars
 returns-in_default-clause-no_vars c =
@@ -136,7 +136,7 @@ returns-in_default-clause-no_vars c =
     let t = bare_term c.seeking.here in
     let ws = c.seeking.waiting.items in
     let none : ws ≡ [] = c.in_default.ensures.items ∙ append-nil c.pop.new.self.items ∙ nil_from_length c.pop.new.self.items (let l = c.pop.new.self.ok.0 in let h = c.in_default.ensures.cases in omega (arith, l, h.1)) in
-    λ e y. let shut : c.match-step_of.is_open ≡ false = shut_if_ground c.match-step_of.is_open (sym c.without.ensures ∙ e) in
+    λ e y. let shut : c.match-step_of.is_open ≡ false = shut_if_ground c.match-step_of.is_open c.was_long.result (sym c.without.ensures ∙ e) in
     sym (elim c.match-step_of.branch [
       | in-Variable+in-Unbound+else-x-y w ↦ absurd (true≢false (sym w.is_open-is ∙ shut))
       | in-Variable+in-Nothing w ↦

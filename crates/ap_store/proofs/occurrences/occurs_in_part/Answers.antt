@@ -44,6 +44,11 @@ returns-in-Ends-clause-like c =
     λ v e. subst (λ (z : Var). HaveSameVars (under (bindings_of s) (bare_term c.args.first)) (under (bindings_of s) (susp [] z)))
     (end_like (c.args.x.num == w.num) c.in-Ends.is_behind w v (sym c.at_end.ensures ∙ e)) h.1
 
+pub occurs_open-requires : goal.occurs_open-requires
+occurs_open-requires c =
+    let s = c.args.store.now in
+    record { same = goes_same s (bare_term c.args.first) c.in-Goes.like c.in-Goes.b (subst (IsNarrowed s (bare_term c.args.first)) c.in-Goes.is c.narrow_down.ensures) }
+
 pub returns-in_ok-found-in-Goes-clause-found : goal.returns-in_ok-found-in-Goes-clause-found
 returns-in_ok-found-in-Goes-clause-found c =
     let s = c.args.store.now in

@@ -31,6 +31,7 @@ invariant_of-self-in-Break-branch-3 c =
       holds = held_kept s.held.items c.hold.new.held.items (changes_in s.table.items es ns) (subst (AreHeld s.held.items) g s.holds) c.hold.ensures.length c.in_err-hold.ensures.unchanged;
       marked = subst (λ (cs : List Change). AreGroundMarks (ground_in s.table.items) cs empty) g s.marked;
       likened = subst (λ (cs : List Change). AreLikes (like_in s.likes.items) cs empty) g s.likened;
+      mentioned = s.mentioned;
       ranked = subst (λ (cs : List Change). IsRanked (raw_after cs nothing_bound) (rank_after cs empty no_rank)) g s.ranked;
     }
 
@@ -45,7 +46,7 @@ invariant_of-self-2 c =
     let g = noted_changes s.table.items s.trail.items ts s.noted.items ms (notes.Added d) s.stored.5 e f in
     let kept = stored_added s.table.items s.trail.items ts s.noted.items ms s.reach d s.stored c.requires e f in
     let held = held_added s.held.items c.hold.new.held.items (changes s) (changes_in s.table.items ts ms) d s.holds c.hold.ensures.length c.in_ok-hold.ensures.held g in
-    record { stored = kept; holds = held; marked = marked_noted s.table.items s.table.items (changes s) (changes_in s.table.items ts ms) s.marked (notes.Added d) g; likened = likes_noted (like_in s.likes.items) (changes s) (changes_in s.table.items ts ms) s.likened (notes.Added d) g; ranked = ranked_after (changes_in s.table.items ts ms) kept.0 }
+    record { stored = kept; holds = held; marked = marked_noted s.table.items s.table.items (changes s) (changes_in s.table.items ts ms) s.marked (notes.Added d) g; likened = likes_noted (like_in s.likes.items) (changes s) (changes_in s.table.items ts ms) s.likened (notes.Added d) g; mentioned = s.mentioned; ranked = ranked_after (changes_in s.table.items ts ms) kept.0 }
 
 pub returns-clause-present : goal.returns-clause-present
 returns-clause-present c =

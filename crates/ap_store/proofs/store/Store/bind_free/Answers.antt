@@ -1,4 +1,4 @@
-use Rattle.std.proofs.Common.{◌≡◌, ap, refl, sym, subst, ◌∙◌}
+use Rattle.std.proofs.Common.{◌≡◌, true≢false, ap, refl, sym, subst, ◌∙◌}
 use Rattle.std.specs.Prelude.{Err, Ok, OnOk, Result, Some}
 use Rattle.ap_defs.specs.Renaming.{IsBelow, rename_term}
 use Rattle.ap_defs.specs.Substitution.{occurs, under}
@@ -40,9 +40,10 @@ note_binding-requires-clause-mark c =
     λ h. subst (λ (t : NominalTerm). HasNoVars (under (bindings_of c.args.self.now) t)) (sym e) (c.requires.no_vars (c.is_ground.ensures.0 (sym c.plain_value-value.ensures.mark ∙ h)))
 
 pub note_binding-requires-clause-like : goal.note_binding-requires-clause-like
-note_binding-requires-clause-like c =
-    let e : kept_term c.plain_value-value.result ≡ rename_term c.args.base (term_of c.args.term.now) = ap term_or_unit c.plain_value-value.ensures.term in
-    subst (IsAlike c.like-like.result (bindings_of c.args.self.now)) (sym e) (c.like-like.ensures (bindings_of c.args.self.now) (rename_term c.args.base (term_of c.args.term.now)) c.requires.like)
+note_binding-requires-clause-like c = tt
+
+pub note_binding-requires-clause-mentioned : goal.note_binding-requires-clause-mentioned
+note_binding-requires-clause-mentioned c = λ k. absurd (true≢false (sym k ∙ c.is_ready.ensures.unkept c.if-is_ready.true))
 
 pub note_with_room-requires-clause-bound : goal.note_with_room-requires-clause-bound
 note_with_room-requires-clause-bound c =
@@ -70,7 +71,7 @@ note_with_room-requires-clause-mark c =
 pub note_with_room-requires-clause-like : goal.note_with_room-requires-clause-like
 note_with_room-requires-clause-like c =
     let e : kept_term c.plain_value-value.result ≡ rename_term c.args.base (term_of c.args.term.now) = ap term_or_unit c.plain_value-value.ensures.term in
-    subst (IsAlike c.like-like.result (bindings_of c.args.self.now)) (sym e) (c.like-like.ensures (bindings_of c.args.self.now) (rename_term c.args.base (term_of c.args.term.now)) c.requires.like)
+    subst (IsAlike c.like.result (bindings_of c.args.self.now)) (sym e) (c.like.ensures (bindings_of c.args.self.now) (rename_term c.args.base (term_of c.args.term.now)) c.requires.like)
 
 pub returns-then-is_ready-clause-present : goal.returns-then-is_ready-clause-present
 returns-then-is_ready-clause-present c =

@@ -10,6 +10,7 @@ use Rattle.ap_store.specs.declared.slots.Slot.{Slot}
 use Rattle.ap_store.proofs.HeldLemmas.{held_made}
 use Rattle.ap_store.proofs.LikeLemmas.{likes_made}
 use Rattle.ap_store.proofs.MarkLemmas.{marked_made}
+use Rattle.ap_store.proofs.MentionLemmas.{mentioned_same}
 use Rattle.ap_store.proofs.SoundLemmas.{ranked_after}
 use Rattle.ap_store.proofs.StoredLemmas.{made_changes, stored_made}
 use Rattle.ap_store.proofs.TrailLemmas.{goes_on_one, present_new, versions_after, versions_new}
@@ -29,7 +30,7 @@ invariant_of-self-2 c =
     let m : length us < 2 ^ 32 = omega (arith, l, c.len-first.ensures) in
     let kept = stored_made s.table.items us s.trail.items ts s.noted.items s.reach n s.stored l f k m e in
     let g = made_changes s.table.items us s.trail.items ts s.noted.items n f e in
-    record { stored = kept; holds = held_made s.held.items (changes s) (changes_in us ts s.noted.items) n s.holds g; marked = marked_made s.table.items us (changes s) (changes_in us ts s.noted.items) s.marked n g marks; likened = likes_made (like_in s.likes.items) (changes s) (changes_in us ts s.noted.items) s.likened n g; ranked = ranked_after (changes_in us ts s.noted.items) kept.0 }
+    record { stored = kept; holds = held_made s.held.items (changes s) (changes_in us ts s.noted.items) n s.holds g; marked = marked_made s.table.items us (changes s) (changes_in us ts s.noted.items) s.marked n g marks; likened = likes_made (like_in s.likes.items) (changes s) (changes_in us ts s.noted.items) s.likened n g; mentioned = mentioned_same s.mentions s.table.items us s.mentioned f marks; ranked = ranked_after (changes_in us ts s.noted.items) kept.0 }
 
 pub returns-clause-present : goal.returns-clause-present
 returns-clause-present c =

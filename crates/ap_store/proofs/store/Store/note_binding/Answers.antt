@@ -8,6 +8,7 @@ use Rattle.ap_store.specs.Views.{bindings_of, changes}
 use Rattle.ap_store.proofs.HeldLemmas.{held_bound}
 use Rattle.ap_store.proofs.LikeLemmas.{here_alike, likes_bound}
 use Rattle.ap_store.proofs.MarkLemmas.{marked_bound}
+use Rattle.ap_store.proofs.MentionLemmas.{mentioned_put}
 use Rattle.ap_store.proofs.ReachLemmas.{all_kept_rises, kept_rises}
 use Rattle.ap_store.proofs.SoundLemmas.{ranked_after}
 use Rattle.ap_store.proofs.StoredLemmas.{bound_changes, stored_bound, unbound_raw}
@@ -31,7 +32,8 @@ invariant_of-self c =
     let marks = marked_bound s.table.items us (changes s) (changes_in us ts s.noted.items) s.marked x t (is_ground_value c.args.value) (unbound_raw (changes s) x s.stored.0 c.requires.unbound) g c.put_value.ensures.marks c.requires.mark in
     let likes = likes_bound (like_in s.likes.items) (changes s) (changes_in us ts s.noted.items) s.likened (like_in c.keep_like.new.likes.items) x t (unbound_raw (changes s) x s.stored.0 c.requires.unbound) g c.keep_like.ensures.others
     (here_alike (bindings_of s) t _ c.args.like c.keep_like.ensures.here c.requires.like) in
-    record { stored = kept; holds = held_bound s.held.items (changes s) (changes_in us ts s.noted.items) x t s.holds g; marked = marks; likened = likes; ranked = ranked_after (changes_in us ts s.noted.items) kept.0 }
+    let mentions = mentioned_put s.mentions s.table.items us s.mentioned x.num (Some t) (is_ground_value c.args.value) f c.put_value.ensures.marks c.requires.mentioned in
+    record { stored = kept; holds = held_bound s.held.items (changes s) (changes_in us ts s.noted.items) x t s.holds g; marked = marks; likened = likes; mentioned = mentions; ranked = ranked_after (changes_in us ts s.noted.items) kept.0 }
 
 pub returns-clause-present : goal.returns-clause-present
 returns-clause-present c =

@@ -24,7 +24,7 @@ invariant_of-self c =
     let kept = stored_taken s.table.items s.trail.items ts s.noted.items ms s.reach c.args.x cs s.stored c.requires.made (c.take_out-conds.ensures.taken ∙ s.holds.1 c.args.x.num) c.push_reserved-2.ensures.items c.push_reserved.ensures.items in
     let g = noted_changes s.table.items s.trail.items ts s.noted.items ms (notes.Taken c.args.x cs) s.stored.5 c.push_reserved-2.ensures.items c.push_reserved.ensures.items in
     let held = held_taken s.held.items c.take_out-conds.new.held.items (changes s) (changes_in s.table.items ts ms) c.args.x cs.items s.holds c.requires.held c.take_out-conds.ensures.length c.take_out-conds.ensures.held g in
-    record { stored = kept; holds = held; marked = marked_noted s.table.items s.table.items (changes s) (changes_in s.table.items ts ms) s.marked (notes.Taken c.args.x cs) g; likened = likes_noted (like_in s.likes.items) (changes s) (changes_in s.table.items ts ms) s.likened (notes.Taken c.args.x cs) g; ranked = ranked_after (changes_in s.table.items ts ms) kept.0 }
+    record { stored = kept; holds = held; marked = marked_noted s.table.items s.table.items (changes s) (changes_in s.table.items ts ms) s.marked (notes.Taken c.args.x cs) g; likened = likes_noted (like_in s.likes.items) (changes s) (changes_in s.table.items ts ms) s.likened (notes.Taken c.args.x cs) g; mentioned = s.mentioned; ranked = ranked_after (changes_in s.table.items ts ms) kept.0 }
 
 pub returns-clause-present : goal.returns-clause-present
 returns-clause-present c =
