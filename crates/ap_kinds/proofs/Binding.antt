@@ -62,7 +62,7 @@ place_steps n idents i s false e m =
       gathers = record {
         made = made_name n idents s2 s.next (omega arith) m2;
         grows = grows_on n s s1 (no_place s).system g.grows (grows_on n s1 s2 (no_place s).system (grows_hole n s1) (grows_name n s2 s.next));
-        sound = λ φ f r. g.sound φ f (r.0, (names_snoc n (filling φ) s.names s.next r.1).0);
+        sound = λ φ f r. g.sound φ f ((grows_hole n s1).back φ ((grows_name n s2 s.next).back φ r));
         complete = λ φ f r h. absurd (never φ f h);
       };
       below = omega arith;
@@ -149,7 +149,7 @@ opens_new_body n idents x w s m below h must named =
       left = hole_shape n s.next (new_body x w s).system (let a = g.grows.next in omega arith);
       right = tt;
       sound = λ φ f r.
-          let i = named φ (g.grows.back φ r) in
+          let i = named φ ((grows_hole n s).back φ (g.grows.back φ r)) in
           (i.0, φ s.next, i.1, g.sound φ f r ∙ ap (λ c. one (types.abs (sort_of c) (φ s.next))) i.1, refl, refl);
       complete = λ φ f r a b z.
           let p = hole_filled n idents s φ z.1 m r in

@@ -5,7 +5,7 @@ use Rattle.ap_defs.specs.Types.{NominalType, NominalKind, NominalSignature, Type
 use Rattle.ap_defs.specs.Types as types
 use Rattle.ap_types.specs.Equations.{filled}
 use Rattle.ap_types.specs.Solving.{shape_at}
-use Rattle.ap_types.specs.Assignments.{IsUnsolvable}
+use Rattle.ap_types.specs.Growing.{IsTableUnsolvable}
 use Rattle.ap_kinds.specs.declared.kinds.IdentKind.{IdentKind}
 use Rattle.ap_kinds.specs.declared.kinds.IdentKind.TheVariants as classes
 use Rattle.ap_kinds.specs.declared.errors.KindsError.{KindsError}
@@ -24,7 +24,7 @@ abbrev pub Walks : NominalSignature → List IdentKind → (List NominalKind →
 Walks sig idents holds s = Gathers (name_count sig) idents (λ φ. holds (kinds_by φ idents)) (started idents) s
 
 pub unsolvable_clash : (sig : NominalSignature) (idents : List IdentKind) (holds : List NominalKind → Type 0) (s : EquationSystem) → Walks sig idents holds s
-    → IsUnsolvable s.equations s.names (name_count sig) → (ks : List NominalKind) → AreKinds sig idents holds ks → ⊥
+    → IsTableUnsolvable s.table s.equations s.names (name_count sig) → (ks : List NominalKind) → AreKinds sig idents holds ks → ⊥
 unsolvable_clash sig idents holds s g u ks k =
     let r = solved_by (name_count sig) (data_count sig) idents holds s g ks k.0 k.1 k.2 in
     u (filling r.0) r.2

@@ -5,24 +5,32 @@ use Rattle.ap_defs.specs.Types as types
 use Rattle.ap_defs.specs.RawTerms.{RawTerm}
 use Rattle.ap_defs.specs.Typing as typing
 use Rattle.ap_defs.specs.Typing.{Want, one, arguments}
-use Rattle.ap_types.specs.Equations.{Filling, GivesNames, IsSolution, bound_of, equations_bound, names_bound}
+use Rattle.ap_types.specs.Equations.{Filling, GivesNames, bound_of, equations_bound, names_bound}
+use Rattle.ap_types.specs.Triangular.{AreFormed}
+use Rattle.ap_types.specs.Growing.{IsTableSolution, with_equation}
 use Rattle.ap_program.specs.RawTyping.{IsTypedRaw}
 use Rattle.ap_kinds.specs.declared.kinds.IdentKind.{IdentKind}
 use Rattle.ap_kinds.specs.Sorts.{with_sorts}
 use Rattle.ap_kinds.specs.Systems.{EquationSystem, equate, system_refused, shape_of_type}
 use Rattle.ap_kinds.specs.Gathering.{Wanting, whole, typed, nothing, more, cell, typed_cell}
-use Rattle.ap_kinds.proofs.Assignments.{Assign, filling, closed, IsProper, AreProper, Agree, closes, opened_injective, closed_same, solution_same, same_filling, agree_on, solves_snoc, snoc_solves, proper_snoc, bound_snoc}
+use Rattle.ap_kinds.proofs.Assignments.{Assign, filling, closed, IsProper, AreProper, Agree, closes, opened_injective, closed_same, solution_same, same_filling, agree_on}
 use Rattle.ap_kinds.proofs.IdentLemmas.{kinds_by, Fits, kinds_same, fits_same}
+use Rattle.ap_kinds.proofs.TakenEquations.{IsProperTable, fits_below, taken_formed, taken_length, taken_bound, taken_proper, taken_solves}
 
 -- the types solve the system
 abbrev pub Meets : ℕ → Assign → EquationSystem → Type 0
-Meets n φ s = IsSolution s.equations s.names n (filling φ)
+Meets n φ s = IsTableSolution s.table s.equations s.names n (filling φ)
+
+abbrev pub IsProperSystem : Filling → EquationSystem → Type 0
+IsProperSystem f s = IsProperTable f s.table × AreProper f s.equations
 
 -- Its holes are below the next one, which is past the identifiers, and where names get name types its shapes are proper.
 pub record IsMade (n : ℕ) (idents : List IdentKind) (s : EquationSystem) : Type 0 where
+  pub formed : AreFormed s.table
+  pub held : length s.table ≤ s.next
   pub bounded : equations_bound s.equations ≤ s.next
   pub named : names_bound s.names ≤ s.next
-  pub proper : (f : Filling) → GivesNames n f s.names → AreProper f s.equations
+  pub proper : (f : Filling) → GivesNames n f s.names → IsProperSystem f s
   pub past : length idents ≤ s.next
 
 -- The second system has the holes and names of the first.
@@ -83,7 +91,10 @@ want_same n (cell x) s φ ψ a h = ap (λ b. typing.more b (one (types.list b)))
 want_same n (typed_cell b) s φ ψ a h = refl
 
 pub meets_same : (n : ℕ) (idents : List IdentKind) (s : EquationSystem) (φ ψ : Assign) → IsMade n idents s → Agree s.next φ ψ → Meets n φ s → Meets n ψ s
-meets_same n idents s φ ψ m a h = solution_same n s.next (filling φ) (filling ψ) (same_filling s.next φ ψ a) s.equations s.names m.bounded m.named h
+meets_same n idents s φ ψ m a h =
+    let same = same_filling s.next φ ψ a in
+    let r = solution_same n s.next (filling φ) (filling ψ) same s.equations s.names m.bounded m.named (h.0.1, h.1) in
+    ((fits_below s.next (filling φ) (filling ψ) same s.table m.formed m.held h.0.0, r.0), r.1)
 
 pub below_idents : (k m : ℕ) (φ ψ : Assign) → k ≤ m → Agree m φ ψ → Agree k φ ψ
 below_idents k m φ ψ l a x i = a x (omega arith)
@@ -114,23 +125,27 @@ gathers_none n idents P s m h = record { made = m; grows = grows_refl n s; sound
 -- one equation
 pub gathers_equate : (n : ℕ) (idents : List IdentKind) (t u : TypeShape) (s : EquationSystem) → IsMade n idents s → IsShapeOf n t s → IsShapeOf n u s
     → Gathers n idents (λ φ. closed φ t ≡ closed φ u) s (equate t u s)
-gathers_equate n idents t u s m h k = record {
-  made = record {
-    bounded = bound_snoc s.next s.equations t u m.bounded h.bounded k.bounded;
-    named = m.named;
-    proper = λ f g. proper_snoc f s.equations t u (m.proper f g) (h.proper f g) (k.proper f g);
-    past = m.past;
-  };
-  grows = record { next = omega arith; names = λ f g. g; back = λ φ r. ((solves_snoc (filling φ) s.equations t u r.0).0, r.1) };
-  sound = λ φ f r.
-      opened_injective (closed φ t) (closed φ u)
-      (sym (closes φ t (h.proper (filling φ) r.1)) ∙ (solves_snoc (filling φ) s.equations t u r.0).1 ∙ closes φ u (k.proper (filling φ) r.1));
-  complete = λ φ f r e. (
-    φ,
-    agree_refl s.next φ,
-    (snoc_solves (filling φ) s.equations t u r.0 (closes φ t (h.proper (filling φ) r.1) ∙ ap shape_of_type e ∙ sym (closes φ u (k.proper (filling φ) r.1))), r.1),
-  );
-}
+gathers_equate n idents t u s m h k =
+    let o = with_equation s.table t u in
+    let solves = λ (f : Filling). taken_solves s.table t u m.formed f s.equations o refl in record {
+      made = record {
+        formed = taken_formed s.table t u m.formed o refl;
+        held = let l = m.held in let e = taken_length s.table t u m.formed o refl in omega arith;
+        bounded = taken_bound s.table t u m.formed s.next s.equations o m.bounded h.bounded k.bounded;
+        named = m.named;
+        proper = λ f g. let p = m.proper f g in taken_proper s.table t u m.formed f s.equations o refl p.0 p.1 (h.proper f g) (k.proper f g);
+        past = m.past;
+      };
+      grows = record { next = omega arith; names = λ f g. g; back = λ φ r. (((solves (filling φ)).0 r.0).0, r.1) };
+      sound = λ φ f r.
+          opened_injective (closed φ t) (closed φ u)
+          (sym (closes φ t (h.proper (filling φ) r.1)) ∙ ((solves (filling φ)).0 r.0).1 ∙ closes φ u (k.proper (filling φ) r.1));
+      complete = λ φ f r e. (
+        φ,
+        agree_refl s.next φ,
+        ((solves (filling φ)).1 (r.0, closes φ t (h.proper (filling φ) r.1) ∙ ap shape_of_type e ∙ sym (closes φ u (k.proper (filling φ) r.1))), r.1),
+      );
+    }
 
 plain : (n : ℕ) (t : TypeShape) (s : EquationSystem) → bound_of t ≡ 0 → ((f : Filling) → IsProper f t) → IsShapeOf n t s
 plain n t s e h = record { bounded = omega arith; proper = λ f k. h f }

@@ -1,11 +1,12 @@
 pub mod LayerLemmas
 pub mod TakenLemmas
-pub mod LastLemmas
+pub mod SystemLemmas
 pub mod Lookups
 pub mod Walks
 pub mod Assignments
 pub mod IdentLemmas
 pub mod Inversions
+pub mod TakenEquations
 pub mod Gathers
 pub mod Steps
 pub mod Opening

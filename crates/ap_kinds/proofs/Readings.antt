@@ -5,16 +5,18 @@ use Rattle.std.proofs.lemmas.Bool.Decides.{nat_tests}
 use Rattle.std.proofs.lemmas.Bool.{and_from, and_parts}
 use Rattle.ap_defs.specs.Types.{NominalType, TypeShape, hole, unit, names, base, pair, list, abs}
 use Rattle.ap_defs.specs.Types as types
-use Rattle.ap_types.specs.Equations.{ShapeEquation, ◌≐◌, Filling, filled, FillingSolves, IsNameType, GivesNames, FilledBy, hole_count}
+use Rattle.ap_types.specs.Equations.{ShapeEquation, ◌≐◌, Filling, filled, FillingSolves, IsNameType, GivesNames, FilledBy, bound_of, hole_count}
 use Rattle.ap_types.specs.Solving.{shape_at}
+use Rattle.ap_types.specs.Triangular.{Fits}
 use Rattle.ap_types.specs.Assignments.{AreNames, IsNameOrOpen}
 use Rattle.ap_types.proofs.NameLemmas.{fills_at}
 use Rattle.ap_types.proofs.NameLemmas.{instance_by, instance_fills}
 use Rattle.ap_kinds.specs.ItemKinds.{IsDeclaredType}
 use Rattle.ap_kinds.specs.Systems.{EquationSystem, shape_of_type}
 use Rattle.ap_kinds.specs.Reading.{is_declared, is_sort, is_closed, sort_in_shape, read_type, IsSystemSolved}
-use Rattle.ap_kinds.proofs.Assignments.{Assign, sort_of, filling, closed, IsProper, AreProper, IsNamesShape, closes, solution_same}
-use Rattle.ap_kinds.proofs.Gathers.{Meets}
+use Rattle.ap_kinds.proofs.Assignments.{Assign, sort_of, filling, closed, IsProper, AreProper, IsNamesShape, closes, filled_same, solution_same}
+use Rattle.ap_kinds.proofs.TakenEquations.{IsProperTable}
+use Rattle.ap_kinds.proofs.Gathers.{Meets, IsProperSystem}
 
 -- Proper parts of shapes: an abstraction over what is no name type is replaced.
 abbrev tidy_abs : TypeShape → TypeShape → TypeShape
@@ -54,6 +56,12 @@ tidy_filled f (abs t u) h = tidy_left f t (filled (tidied f) u) (tidy (filled f 
 tidy_solves : (f : Filling) (es : List ShapeEquation) → AreProper f es → FillingSolves f es → FillingSolves (tidied f) es
 tidy_solves f [] p s = tt
 tidy_solves f ((t ≐ u) ∷ es) p s = (tidy_filled f t p.0 ∙ ap tidy s.0 ∙ sym (tidy_filled f u p.1), tidy_solves f es p.2 s.1)
+
+tidy_fits : (f : Filling) (ts : List TypeShape) → IsProperTable f ts → Fits f ts → Fits (tidied f) ts
+tidy_fits f ts p k x = ap tidy (k x) ∙ sym (tidy_filled f (shape_at ts x) (p x))
+
+fits_as : (f g : Filling) (ts : List TypeShape) → ((x : ℕ) → f x ≡ g x) → Fits f ts → Fits g ts
+fits_as f g ts e k x = sym (e x) ∙ k x ∙ filled_same (bound_of (shape_at ts x)) f g (λ y l. e y) (shape_at ts x) (omega arith)
 
 tidy_name : (n : ℕ) (t : TypeShape) → IsNameType n t → IsNameType n (tidy t)
 tidy_name n (names s) h = h
@@ -103,14 +111,14 @@ proper_past : (g : Filling) (ts : List TypeShape) (x : ℕ) → length ts ≤ x 
 proper_past g ts x l = subst (IsProper g) (sym (past_end ts x (hole x) l)) tt
 
 -- with a filling that solves, each shape is proper
-pub proper_at : (n : ℕ) (s : EquationSystem) (ts : List TypeShape) → IsSystemSolved n s ts → ((f : Filling) → GivesNames n f s.names → AreProper f s.equations)
+pub proper_at : (n : ℕ) (s : EquationSystem) (ts : List TypeShape) → IsSystemSolved n s ts → ((f : Filling) → GivesNames n f s.names → IsProperSystem f s)
     → (g : Filling) → GivesNames n (instance_by g ts) s.names → (x : ℕ) → IsProper g (shape_at ts x)
 proper_at n s ts h proper g named x =
     elim (below_or_past x (length ts)) [
       | inl l ↦
           let f = instance_by g ts in
           let sol = (h.most_general f).1 ((g, instance_fills g ts), named) in
-          let tidy_sol = (h.most_general (tidied f)).0 (tidy_solves f s.equations (proper f named) sol.0, tidy_names n f s.names named) in
+          let tidy_sol = (h.most_general (tidied f)).0 ((tidy_fits f s.table (proper f named).0 sol.0.0, tidy_solves f s.equations (proper f named).1 sol.0.1), tidy_names n f s.names named) in
           tidy_proper g tidy_sol.0.0 (shape_at ts x) (instance_at tidy_sol.0.0 (tidied f) ts x tidy_sol.0.1 l)
       | inr l ↦ proper_past g ts x l
     ]
@@ -132,11 +140,11 @@ chosen_names : (n : ℕ) (γ : Assign) (ts : List TypeShape) (xs : List ℕ) →
 chosen_names n γ ts [] c h = tt
 chosen_names n γ ts (x ∷ xs) c h = (chosen_name n γ (shape_at ts x) c h.0, chosen_names n γ ts xs c h.1)
 
-pub proper_by : (n : ℕ) (s : EquationSystem) (ts : List TypeShape) → IsSystemSolved n s ts → ((f : Filling) → GivesNames n f s.names → AreProper f s.equations)
+pub proper_by : (n : ℕ) (s : EquationSystem) (ts : List TypeShape) → IsSystemSolved n s ts → ((f : Filling) → GivesNames n f s.names → IsProperSystem f s)
     → (γ : Assign) → IsChoice n γ → (x : ℕ) → IsProper (filling γ) (shape_at ts x)
 proper_by n s ts h proper γ c x = proper_at n s ts h proper (filling γ) (chosen_names n γ ts s.names c h.constrained) x
 
-pub result_meets : (n : ℕ) (s : EquationSystem) (ts : List TypeShape) → IsSystemSolved n s ts → ((f : Filling) → GivesNames n f s.names → AreProper f s.equations)
+pub result_meets : (n : ℕ) (s : EquationSystem) (ts : List TypeShape) → IsSystemSolved n s ts → ((f : Filling) → GivesNames n f s.names → IsProperSystem f s)
     → (γ : Assign) → IsChoice n γ → Meets n (result_by γ ts) s
 result_meets n s ts h proper γ c =
     let g = filling γ in
@@ -144,7 +152,9 @@ result_meets n s ts h proper γ c =
     let named = chosen_names n γ ts s.names c h.constrained in
     let sol = (h.most_general f).1 ((g, instance_fills g ts), named) in
     let k = hole_count s.equations s.names in
-    solution_same n k f (filling (result_by γ ts)) (λ x l. closes γ (shape_at ts x) (proper_at n s ts h proper g named x)) s.equations s.names (omega arith) (omega arith) sol
+    let same : (x : ℕ) → f x ≡ filling (result_by γ ts) x = λ x. closes γ (shape_at ts x) (proper_at n s ts h proper g named x) in
+    let r = solution_same n k f (filling (result_by γ ts)) (λ x l. same x) s.equations s.names (omega arith) (omega arith) (sol.0.1, sol.1) in
+    ((fits_as f (filling (result_by γ ts)) s.table same sol.0.0, r.0), r.1)
 
 -- Declared types.
 below_is : (i j : ℕ) → i < j → nat_lt i j ≡ true

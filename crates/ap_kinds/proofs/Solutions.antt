@@ -8,7 +8,8 @@ use Rattle.ap_kinds.specs.declared.kinds.IdentKind.{IdentKind}
 use Rattle.ap_kinds.specs.declared.kinds.IdentKind.TheVariants as classes
 use Rattle.ap_kinds.specs.ItemKinds.{AreOfClasses, IsDeclaredType, AreDeclaredKinds}
 use Rattle.ap_kinds.specs.Systems.{EquationSystem, started, name_holes, shape_of_type, is_name_at}
-use Rattle.ap_kinds.proofs.Assignments.{Assign, sort_of, filling, Agree}
+use Rattle.ap_types.proofs.GrowLemmas.{open_length, open_at, open_fits, open_table_formed}
+use Rattle.ap_kinds.proofs.Assignments.{Assign, sort_of, filling, IsProper, Agree}
 use Rattle.ap_kinds.proofs.IdentLemmas.{kinds_by, kind_by, after, Fits, var_number}
 use Rattle.ap_kinds.proofs.Gathers.{Meets, IsMade, Gathers}
 
@@ -79,7 +80,7 @@ started_names n φ i (classes.Var ∷ cs) g (suc k) e =
 
 pub meets_started : (n : ℕ) (idents : List IdentKind) (φ : Assign) → Fits n idents φ → Meets n φ (started idents)
 meets_started n idents φ f = (
-  tt,
+  (open_fits (filling φ) (length idents), tt),
   names_started n φ 0 idents (λ k e.
       let r = f.named k e in
       let z : k ≡ 0 + k = omega arith in
@@ -95,7 +96,14 @@ bound_started i (classes.Name ∷ cs) b l = let r = bound_started (i + 1) cs b (
 bound_started i (classes.Var ∷ cs) b l = bound_started (i + 1) cs b (omega arith)
 
 pub made_started : (n : ℕ) (idents : List IdentKind) → IsMade n idents (started idents)
-made_started n idents = record { bounded = omega arith; named = bound_started 0 idents (length idents) (omega arith); proper = λ f g. tt; past = omega arith }
+made_started n idents = record {
+  formed = open_table_formed (length idents);
+  held = let e = open_length (length idents) in omega arith;
+  bounded = omega arith;
+  named = bound_started 0 idents (length idents) (omega arith);
+  proper = λ f g. ((λ x. subst (IsProper f) (sym (open_at (length idents) x)) tt), tt);
+  past = omega arith;
+}
 
 -- kinds that hold are solved
 pub solved_by : (n m : ℕ) (idents : List IdentKind) (holds : List NominalKind → Type 0) (s : EquationSystem) → Gathers n idents (λ φ. holds (kinds_by φ idents)) (started idents) s

@@ -2,9 +2,10 @@
 use Rattle.std.specs.Prelude.{◌≡◌, ◌<◌, ◌↔◌, ℕ, ◌+◌, Bool, true, false, ◌&&◌, ◌⊎◌, nat_lt, List, [], ◌∷◌, length}
 use Rattle.ap_defs.specs.Types.{NominalType, NominalKind, NominalSignature, TypeShape, hole, unit, names, base, pair, list, abs, name, var}
 use Rattle.ap_defs.specs.Types as types
-use Rattle.ap_types.specs.Equations.{Filling, GivesNames, IsSolution, IsShapeInstance}
+use Rattle.ap_types.specs.Equations.{Filling, GivesNames, IsShapeInstance}
 use Rattle.ap_types.specs.Solving.{shape_at}
-use Rattle.ap_types.specs.Assignments.{AreNames, IsUnsolvable}
+use Rattle.ap_types.specs.Growing.{IsTableSolution, IsTableUnsolvable}
+use Rattle.ap_types.specs.Assignments.{AreNames}
 use Rattle.ap_program.specs.Typed.{AreInhabited}
 use Rattle.ap_kinds.specs.declared.kinds.IdentKind.{IdentKind}
 use Rattle.ap_kinds.specs.declared.kinds.IdentKind.TheVariants as classes
@@ -61,7 +62,7 @@ read_kinds ts i (c ∷ cs) = read_kind c (shape_at ts i) ∷ read_kinds ts (i + 
 
 -- The shapes are the most general ones that solve the system.
 pub record IsSystemSolved (n : ℕ) (s : EquationSystem) (ts : List TypeShape) : Type 0 where
-  pub most_general : (f : Filling) → IsSolution s.equations s.names n f ↔ (IsShapeInstance ts f × GivesNames n f s.names)
+  pub most_general : (f : Filling) → IsTableSolution s.table s.equations s.names n f ↔ (IsShapeInstance ts f × GivesNames n f s.names)
   pub constrained : AreNames n ts s.names
 
 abbrev pub AllDeclared : ℕ → ℕ → ℕ → List TypeShape → Type 0
@@ -100,7 +101,7 @@ abbrev pub IsFound : NominalSignature → List IdentKind → EquationSystem → 
 IsFound sig idents s ks = (ts : List TypeShape) × IsSystemSolved (name_count sig) s ts × AreKindsRead sig idents ts ks × AreInhabited sig.constructors ks
 
 abbrev pub IsUnsolved : KindsError → NominalSignature → EquationSystem → Type 0
-IsUnsolved errors.Clash sig s = IsUnsolvable s.equations s.names (name_count sig)
+IsUnsolved errors.Clash sig s = IsTableUnsolvable s.table s.equations s.names (name_count sig)
 IsUnsolved errors.Ambiguous sig s = ⊥
 IsUnsolved errors.Empty sig s = ⊥
 IsUnsolved errors.Memory sig s = Unit {0}

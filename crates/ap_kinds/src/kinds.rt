@@ -4,9 +4,9 @@ ghost use Rattle.std.specs.Prelude.{◌≡◌, length, map, IfOk, IfErr};
 ghost use Rattle.ap_defs.specs.Types.{kind_of, signature_of};
 ghost use Rattle.ap_defs.specs.RawTerms.{raw_of};
 ghost use Rattle.ap_defs.specs.Goals.{goal_over};
-ghost use Rattle.ap_types.specs.Assignments.{IsUnsolvable};
+ghost use Rattle.ap_types.specs.Growing.{IsTableUnsolvable};
 ghost use Rattle.ap_types.specs.Tables.{AreInhabitants};
-ghost use Rattle.ap_types.specs.Triangular.{shapes_of_nodes, assignment_of, IsSettledTable};
+ghost use Rattle.ap_types.specs.Triangular.{shapes_of_nodes, assignment_of, AreFormed, IsSettledTable};
 ghost use Rattle.ap_types.specs.Walking.{AreInOrder};
 ghost use Rattle.ap_program.specs.Typed.{AreInhabited};
 ghost use Rattle.ap_kinds.specs.ItemKinds.{TypesQuery, TypesClause, IsInferred, IsRefused};
@@ -24,7 +24,7 @@ use ap_defs::goals::{Goal, Kind, Signature};
 use ap_defs::lists::List;
 use ap_defs::memory::Memory;
 use ap_defs::terms::Raw;
-use ap_types::equations::solved;
+use ap_types::equations::solved_table;
 use ap_types::errors::TypesError;
 use ap_types::inhabitants::Inhabitants;
 use ap_types::solved::Solved;
@@ -40,24 +40,26 @@ pub enum IdentKind {
 /// The table of the most general shapes of the holes of a system. No sort is above the greatest `u32`,
 /// so more name types than that count as want of memory.
 fn table_of_holes(alloc: Global, sig: &Signature, system: System) -> Result<Solved, TypesError>
+    requires { AreFormed (system_of system).table }
     ensures settled { IfOk result (λ s. IsSettledTable (shapes_of_nodes s.nodes.items)) }
     ensures order { IfOk result (λ s. AreInOrder (shapes_of_nodes s.nodes.items) s.order.items) }
     ensures ok { IfOk result (λ s. IsSystemSolved (name_count (signature_of sig.now))
         (system_of system) (assignment_of s)) }
     ensures clash { IfErr result (λ e. e ≡ TypesError.Clash →
-        IsUnsolvable (system_of system).equations (system_of system).names
-        (name_count (signature_of sig.now))) }
+        IsTableUnsolvable (system_of system).table (system_of system).equations
+        (system_of system).names (name_count (signature_of sig.now))) }
 {
     let name_types = sig.name_types.items().len();
     if name_types > u32::MAX as usize {
         return Err(TypesError::Memory);
     }
     let System {
+        nodes,
         equations,
         names,
         ..
     } = system;
-    solved(alloc, equations, names.as_slice(), name_types as u32)
+    solved_table(alloc, nodes, equations, names.as_slice(), name_types as u32)
 }
 
 /// The kinds of identifiers, by the table of their system.
@@ -95,7 +97,8 @@ fn settle(
     idents: &[IdentKind],
     system: System,
 ) -> Result<Vec<Kind>, KindsError>
-    requires { AreInhabitants (signature_of sig.now).constructors inhabitants.now }
+    requires inhabited { AreInhabitants (signature_of sig.now).constructors inhabitants.now }
+    requires formed { AreFormed (system_of system).table }
     ensures ok { IfOk result (λ ks. IsFound (signature_of sig.now) idents.now (system_of system)
         (map kind_of ks.items)) }
     ensures err { IfErr result (λ e. IsNotFound e (signature_of sig.now) idents.now

@@ -1,32 +1,59 @@
 //! Systems of type equations, as they grow.
 
 ghost use Rattle.std.specs.Prelude.{◌≡◌, ℕ, ◌+◌, ◌++◌, ◌∷◌, [], length, IfOk, OnOk};
-ghost use Rattle.ap_defs.specs.Types.{shape_of};
+ghost use Rattle.ap_defs.specs.Types.{shape_of, hole, pair};
 ghost use Rattle.ap_kinds.specs.Systems.{system_of, equate, with_name_hole, with_hole, system_refused, is_name_at, is_var_at, name_holes, started};
 
 use crate::kinds::IdentKind;
 use ap_defs::memory::Memory;
 use ap_defs::terms::Shape;
+use ap_types::growing::{open_table, put_entry, put_equation};
+use ap_types::nodes::Node;
 use std::alloc::Global;
 
-/// How many equations more than identifiers a system has room for at first: most systems are small.
-const MORE_EQUATIONS: usize = 12;
+/// For how many holes more than identifiers a system has room at first: most systems are small.
+const MORE_HOLES: usize = 12;
 
-/// Type equations, the holes that must be name types, and the number of the next hole.
+/// What holes are so far, the equations that this does not say, the holes that must be name types, and the number of
+/// the next hole.
 #[derive(Drop)]
 pub(crate) struct System {
+    pub(crate) nodes: Vec<Node>,
     pub(crate) equations: Vec<(Shape, Shape)>,
     pub(crate) names: Vec<u64>,
     pub(crate) next: u64,
 }
 
-/// One more equation.
+/// One more equation. It takes no room where it says what an open hole is.
 pub(crate) fn equate(system: &mut System, left: Shape, right: Shape) -> Result<(), Memory>
     ensures { OnOk result (system_of system.new
         ≡ equate (shape_of left) (shape_of right) (system_of system.old)) }
 {
+    if put_equation(&mut system.nodes, &left, &right) {
+        return Ok(());
+    }
     system.equations.push((left, right))?;
     Ok(())
+}
+
+/// One more equation, of a shape and a pair of two holes.
+pub(crate) fn equate_sides(
+    alloc: Global,
+    want: Shape,
+    first: u64,
+    second: u64,
+    system: &mut System,
+) -> Result<(), Memory>
+    ensures { OnOk result (system_of system.new
+        ≡ equate (shape_of want) (pair (hole first) (hole second)) (system_of system.old)) }
+{
+    let sides = Node::Pair(first as usize, second as usize);
+    if put_entry(&mut system.nodes, &want, sides) {
+        return Ok(());
+    }
+    let left = Box::new(alloc, Shape::Hole(first))?;
+    let right = Box::new(alloc, Shape::Hole(second))?;
+    equate(system, want, Shape::Pair(left, right))
 }
 
 /// One more hole that must be a name type.
@@ -39,6 +66,7 @@ pub(crate) fn add_name(system: &mut System, x: u64) -> Result<(), Memory>
 
 /// One more hole, by its number. No table has a place for the greatest number, which counts as want of
 /// memory.
+#[tactic(auto, using(ap_types::proofs::GrowLemmas::hole_pushed))]
 pub(crate) fn new_hole(system: &mut System) -> Result<u64, Memory>
     ensures hole { IfOk result (λ x. x ≡ system.old.next) }
     ensures next { OnOk result (system.new.next ≡ system.old.next + 1) }
@@ -48,6 +76,8 @@ pub(crate) fn new_hole(system: &mut System) -> Result<u64, Memory>
     if hole == u64::MAX {
         return Err(Memory);
     }
+    let place = system.nodes.len();
+    system.nodes.push(Node::Place(place))?;
     system.next = hole + 1;
     Ok(hole)
 }
@@ -92,9 +122,11 @@ fn name_holes(alloc: Global, idents: &[IdentKind]) -> Result<Vec<u64>, Memory>
 pub(crate) fn started(alloc: Global, idents: &[IdentKind]) -> Result<System, Memory>
     ensures { IfOk result (λ s. system_of s ≡ started idents.now) }
 {
+    let nodes = open_table(alloc, idents.len(), MORE_HOLES)?;
     let names = name_holes(alloc, idents)?;
     Ok(System {
-        equations: Vec::with_capacity(alloc, idents.len().saturating_add(MORE_EQUATIONS))?,
+        nodes,
+        equations: Vec::new(alloc),
         names,
         next: idents.len() as u64,
     })

@@ -10,7 +10,7 @@ use crate::inside::{inside_abstraction, inside_application};
 use crate::kinds::IdentKind;
 use crate::places::{name_place, one_sort};
 use crate::shapes::opened;
-use crate::systems::{System, equate, new_hole, refuse};
+use crate::systems::{System, equate_sides, new_hole, refuse};
 use crate::wants::{
     Wanted, list_of, list_of_hole, meet_name, meet_swapped, meet_unit, meet_var, wanted_all,
 };
@@ -37,9 +37,7 @@ fn new_sides<'a>(alloc: Global, want: Shape, system: &mut System) -> Result<Side
 {
     let first = new_hole(system)?;
     let second = new_hole(system)?;
-    let left = Box::new(alloc, Shape::Hole(first))?;
-    let right = Box::new(alloc, Shape::Hole(second))?;
-    equate(system, want, Shape::Pair(left, right))?;
+    equate_sides(alloc, want, first, second, system)?;
     Ok(Sides {
         left: Wanted::Whole(Shape::Hole(first)),
         right: Wanted::Whole(Shape::Hole(second)),

@@ -19,6 +19,9 @@ pub mod JoinLemmas
 pub mod FillLemmas
 pub mod WalkLemmas
 pub mod OrderLemmas
+pub mod EquationLemmas
+pub mod GrowLemmas
+pub mod PutLemmas
 pub mod SettledLemmas
 pub mod LeastRuleLemmas
 pub mod LeastLemmas

@@ -13,7 +13,7 @@ fills_at g f x y d [] h l = absurd (omega arith)
 fills_at g f x zero d (t ∷ ts) h l = let e : x + 0 ≡ x = omega arith in ap f e ∙ h.0
 fills_at g f x (suc y) d (t ∷ ts) h l = let e : x + suc y ≡ suc x + y = omega arith in ap f e ∙ fills_at g f (suc x) y d ts h.1 (omega arith)
 
-at_any : (ts : List TypeShape) (y : ℕ) (d e : TypeShape) → y < length ts → slice_index_or ts y d ≡ slice_index_or ts y e
+pub at_any : (ts : List TypeShape) (y : ℕ) (d e : TypeShape) → y < length ts → slice_index_or ts y d ≡ slice_index_or ts y e
 at_any [] y d e l = absurd (omega arith)
 at_any (t ∷ ts) zero d e l = refl
 at_any (t ∷ ts) (suc y) d e l = at_any ts y d e (omega arith)
@@ -23,7 +23,7 @@ past_end [] y d l = refl
 past_end (t ∷ ts) zero d l = absurd (omega arith)
 past_end (t ∷ ts) (suc y) d l = past_end ts y d (omega arith)
 
-fills_from : (g f : Filling) (x : ℕ) (ts : List TypeShape) → ((y : ℕ) (d : TypeShape) → y < length ts → f (x + y) ≡ filled g (slice_index_or ts y d)) → FilledBy g f x ts
+pub fills_from : (g f : Filling) (x : ℕ) (ts : List TypeShape) → ((y : ℕ) (d : TypeShape) → y < length ts → f (x + y) ≡ filled g (slice_index_or ts y d)) → FilledBy g f x ts
 fills_from g f x [] h = tt
 fills_from g f x (t ∷ ts) h =
     let s : x ≡ x + 0 = omega arith in

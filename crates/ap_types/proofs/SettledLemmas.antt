@@ -11,8 +11,10 @@ use Rattle.ap_types.specs.Assignments.{IsUnsolvable, name_equations, Narrows, Is
 use Rattle.ap_types.specs.Triangular.{shapes_of_nodes, value_of, values_from, Fits, IsFormed, AreFormed, IsSettledTable}
 use Rattle.ap_types.specs.Joining.{Agree, LoadsAll, LoadsSystem, Settles, Rewrites, TablesLead, NeverAgree, link}
 use Rattle.ap_types.specs.Walking.{NoneFits}
+use Rattle.ap_types.specs.Growing.{table_equations}
 use Rattle.ap_types.proofs.ShapeLemmas.{filled_filled, filled_same}
-use Rattle.ap_types.proofs.TableLemmas.{at_past}
+use Rattle.ap_types.proofs.EquationLemmas.{solves_append, table_fits, fits_table}
+use Rattle.ap_types.proofs.TableLemmas.{at_past, form_more}
 use Rattle.ap_types.proofs.LoadLemmas.{solves_below}
 use Rattle.ap_types.proofs.NameLemmas.{names_solved, bound_names}
 use Rattle.ap_types.proofs.WalkLemmas.{weight, part_less, open_or_parts, read_open}
@@ -106,22 +108,29 @@ module _ (es : List ShapeEquation) (xs : List ℕ) (n holes : ℕ) (ts : List Ty
   pub unsolvable_never : NeverAgree ts ps → IsUnsolvable es xs n
   unsolvable_never h f s = let a = agreeing f s in h a.0 a.1.0 a.1.1
 
--- Loading both lists of equations.
-pub loads_system : (es fs : List ShapeEquation) (holes : ℕ) (os ts us : List TypeShape) (ps qs : List (ℕ × ℕ)) → ((x : ℕ) → shape_at os x ≡ hole x) → length os ≡ holes
-    → equations_bound fs ≤ holes → LoadsAll os [] es ts ps → LoadsAll ts ps fs us qs → LoadsSystem es fs holes us qs
-loads_system es fs holes os ts us ps qs opened long bound h k = record {
+-- The equations of a table that is begun, and both lists of equations.
+pub table_places : (f : Filling) (os ts : List TypeShape) → ((x : ℕ) → shape_at os x ≡ shape_at ts x) → Fits f ts ↔ Fits f os
+table_places f os ts same = ((λ k x. k x ∙ ap (filled f) (sym (same x))), (λ k x. k x ∙ ap (filled f) (same x)))
+
+pub places_formed : (os ts : List TypeShape) → ((x : ℕ) → shape_at os x ≡ shape_at ts x) → length ts ≤ length os → AreFormed ts → AreFormed os
+places_formed os ts same l h x = form_more (length ts) (length os) x (shape_at os x) l (subst (IsFormed (length ts) x) (sym (same x)) (h x))
+
+pub loads_system : (ts : List TypeShape) (es fs : List ShapeEquation) (holes : ℕ) (os us vs : List TypeShape) (ps qs : List (ℕ × ℕ)) → ((x : ℕ) → shape_at os x ≡ shape_at ts x) → length os ≡ holes
+    → equations_bound fs ≤ holes → LoadsAll os [] es us ps → LoadsAll us ps fs vs qs → LoadsSystem (table_equations 0 ts ++ es) fs holes vs qs
+loads_system ts es fs holes os us vs ps qs same long bound h k = record {
   formed = k.formed;
   within = k.within;
   longer = let a = h.longer in let b = k.longer in omega arith;
-  solves = λ f e a. let b = k.solves f e a in ((h.solves f b.0.0 b.0.1).1, b.1);
+  solves = λ f e a.
+      let b = k.solves f e a in
+      let c = h.solves f b.0.0 b.0.1 in
+      ((solves_append f (table_equations 0 ts) es).1 (fits_table f ts ((table_places f os ts same).1 c.0.0), c.1), b.1);
   more = λ f s r.
-      let a = h.more f (λ x. sym (ap (filled f) (opened x))) tt s in
+      let p = (solves_append f (table_equations 0 ts) es).0 s in
+      let a = h.more f ((table_places f os ts same).0 (table_fits f ts p.0)) tt p.1 in
       let b = k.more a.0 a.1.0 a.1.1 (solves_below f a.0 fs holes bound (λ x l. a.2 x (omega arith)) r) in
       (b.0, b.1, λ x l. b.2 x (let m = h.longer in omega arith) ∙ a.2 x (omega arith));
 }
-
-pub open_formed : (os : List TypeShape) → ((x : ℕ) → shape_at os x ≡ hole x) → AreFormed os
-open_formed os opened x = subst (λ t. IsFormed (length os) x t) (sym (opened x)) (omega arith)
 
 -- Settling: the pairs are joined, links shortened, and no cycle was found.
 pub settles : (ts us vs : List TypeShape) (ps : List (ℕ × ℕ)) → TablesLead ts ps us [] → Rewrites us vs → IsSettledTable vs → Settles ts ps vs

@@ -40,10 +40,6 @@ pub record LoadsAll (old : List TypeShape) (before : List (ℕ × ℕ)) (es : Li
   pub solves : (f : Filling) → Fits f new → Agree f after → (Fits f old × Agree f before) × FillingSolves f es
   pub more : (f : Filling) → Fits f old → Agree f before → FillingSolves f es → (g : Filling) × (Fits g new × Agree g after) × ((x : ℕ) → x < length old → g x ≡ f x)
 
--- The new table says of the old places what the old one and the equation say, with the same pairs.
-abbrev pub Fills : List Node → ShapeEquation → List Node → Type 0
-Fills ns e ms = (ps : List (ℕ × ℕ)) → ArePairsWithin (length ns) ps → LoadsAll (shapes_of_nodes ns) ps (e ∷ []) (shapes_of_nodes ms) ps
-
 abbrev pub is_root : ℕ → TypeShape → Bool
 is_root x (hole y) = x == y
 is_root x _ = true

@@ -13,6 +13,7 @@ pub mod Loading
 pub mod Needed
 pub mod Barred
 pub mod Entries
+pub mod Growing
 pub mod Walking
 pub mod Tables
 pub mod Closed

@@ -1,17 +1,18 @@
 //! Equations of types.
 
-ghost use Rattle.std.specs.Prelude.{◌≡◌, ◌↔◌, ℕ, ◌+◌, ◌≤◌, [], ◌∷◌, length, map, max, IsTrue, IfOk, IfErr};
+ghost use Rattle.std.specs.Prelude.{◌≡◌, ◌↔◌, ℕ, ◌+◌, ◌≤◌, ◌++◌, [], ◌∷◌, length, map, max, IsTrue, IfOk, IfErr};
 ghost use Rattle.ap_defs.specs.Types.{shape_of};
 ghost use Rattle.ap_types.specs.Equations.{equation_of, bound_of, equations_bound, names_bound, hole_count, Filling, IsSolution, IsShapeInstance, GivesNames};
 ghost use Rattle.ap_types.specs.Assignments.{AreNames, IsUnsolvable, name_equation, name_equations, Narrows};
 ghost use Rattle.ap_types.specs.Triangular.{shapes_of_nodes, AreFormed, IsSettledTable, assignment_of};
 ghost use Rattle.ap_types.specs.Loading.{own_bound};
+ghost use Rattle.ap_types.specs.Growing.{table_equations, IsTableSolution, IsTableUnsolvable};
 ghost use Rattle.ap_types.specs.Joining.{ArePairsWithin, BeginsSystem, NeverAgree, LoadsSystem, Settles};
 ghost use Rattle.ap_types.specs.Walking.{AreInOrder};
 
 use crate::errors::TypesError;
 use crate::joining::{join_all, shorten_all};
-use crate::loading::{Loaded, load_all, load_name_equations, open_places};
+use crate::loading::{Loaded, load_all, load_name_equations, with_places};
 use crate::nodes::Node;
 use crate::parts::push_parts;
 use crate::solved::{Solved, are_names_or_holes};
@@ -101,22 +102,25 @@ fn bound_in_names(names: &[u64]) -> Result<usize, Memory>
     Ok(bound)
 }
 
-/// The equations and those by which holes are the one name type, put into a table whose first places
-/// are the holes.
+/// A table that is begun, with the equations and those by which holes are the one name type put into it; its first
+/// places are the holes.
 fn load_system(
     alloc: Global,
+    begun: Vec<Node>,
     equations: &[(Shape, Shape)],
     names: &[u64],
     name_types: u32,
     holes: usize,
 ) -> Result<Loaded, Memory>
-    requires { hole_count (map equation_of equations.now) names.now ≤ holes }
-    ensures { IfOk result (λ l. LoadsSystem (map equation_of equations.now)
-        (name_equations name_types names.now) holes (shapes_of_nodes l.nodes.items) l.pairs.items) }
+    requires formed { AreFormed (shapes_of_nodes begun.items) }
+    requires holes { hole_count (table_equations 0 (shapes_of_nodes begun.items)
+        ++ map equation_of equations.now) names.now ≤ holes }
+    ensures { IfOk result (λ l. LoadsSystem (table_equations 0 (shapes_of_nodes begun.items)
+        ++ map equation_of equations.now) (name_equations name_types names.now) holes
+        (shapes_of_nodes l.nodes.items) l.pairs.items) }
 {
-    let room = equations.len().saturating_add(names.len());
-    let nodes = open_places(alloc, holes, room)?;
-    let pairs = Vec::with_capacity(alloc, room)?;
+    let nodes = with_places(begun, holes)?;
+    let pairs = Vec::with_capacity(alloc, equations.len())?;
     let loaded = load_all(alloc, Loaded { nodes, pairs }, equations)?;
     load_name_equations(alloc, loaded, names, name_types)
 }
@@ -144,55 +148,65 @@ struct Unsolved {
     holes: usize,
 }
 
-/// The equations and those by which holes are the one name type, put into a table whose first places are all
-/// holes that they have.
+/// A table that is begun, with the equations and those by which holes are the one name type put into it; its first
+/// places are all holes that they have.
 fn begun(
     alloc: Global,
+    nodes: Vec<Node>,
     equations: &[(Shape, Shape)],
     names: &[u64],
     name_types: u32,
 ) -> Result<Unsolved, Memory>
-    ensures { IfOk result (λ b. BeginsSystem (map equation_of equations.now) names.now name_types
-        b.holes (shapes_of_nodes b.loaded.nodes.items) b.loaded.pairs.items) }
+    requires { AreFormed (shapes_of_nodes nodes.items) }
+    ensures { IfOk result (λ b. BeginsSystem (table_equations 0 (shapes_of_nodes nodes.items)
+        ++ map equation_of equations.now) names.now name_types b.holes
+        (shapes_of_nodes b.loaded.nodes.items) b.loaded.pairs.items) }
 {
     let in_equations = bound_in_equations(alloc, equations)?;
     let in_names = bound_in_names(names)?;
-    let holes = greater(in_equations, in_names);
-    let loaded = load_system(alloc, equations, names, name_types, holes)?;
+    let in_both = greater(in_equations, in_names);
+    let places = nodes.len();
+    let holes = greater(places, in_both);
+    let loaded = load_system(alloc, nodes, equations, names, name_types, holes)?;
     Ok(Unsolved { loaded, holes })
 }
 
 /// The same for equations that are let go then, so that they don't stand beside what is made of their table.
 fn begun_of(
     alloc: Global,
+    nodes: Vec<Node>,
     equations: Vec<(Shape, Shape)>,
     names: &[u64],
     name_types: u32,
 ) -> Result<Unsolved, Memory>
-    ensures { IfOk result (λ b. BeginsSystem (map equation_of equations.items) names.now name_types
-        b.holes (shapes_of_nodes b.loaded.nodes.items) b.loaded.pairs.items) }
+    requires { AreFormed (shapes_of_nodes nodes.items) }
+    ensures { IfOk result (λ b. BeginsSystem (table_equations 0 (shapes_of_nodes nodes.items)
+        ++ map equation_of equations.items) names.now name_types b.holes
+        (shapes_of_nodes b.loaded.nodes.items) b.loaded.pairs.items) }
 {
-    begun(alloc, equations.as_slice(), names, name_types)
+    begun(alloc, nodes, equations.as_slice(), names, name_types)
 }
 
-/// A table that has every solution of the equations, before it is tested whether the holes that must be
-/// name types can be.
+/// A table that has every solution of a table that is begun and of equations, before it is tested whether the holes
+/// that must be name types can be.
 fn narrowed(
     alloc: Global,
+    nodes: Vec<Node>,
     equations: Vec<(Shape, Shape)>,
     names: &[u64],
     name_types: u32,
 ) -> Result<Solved, TypesError>
+    requires { AreFormed (shapes_of_nodes nodes.items) }
     ensures settled { IfOk result (λ s. IsSettledTable (shapes_of_nodes s.nodes.items)) }
     ensures order { IfOk result (λ s. AreInOrder (shapes_of_nodes s.nodes.items) s.order.items) }
-    ensures holes { IfOk result (λ s. s.holes
-        ≡ hole_count (map equation_of equations.items) names.now) }
-    ensures narrows { IfOk result (λ s. Narrows (map equation_of equations.items) names.now
-        name_types (assignment_of s)) }
-    ensures clash { IfErr result (λ e. e ≡ TypesError.Clash →
-        IsUnsolvable (map equation_of equations.items) names.now name_types) }
+    ensures holes { IfOk result (λ s. s.holes ≡ hole_count (table_equations 0
+        (shapes_of_nodes nodes.items) ++ map equation_of equations.items) names.now) }
+    ensures narrows { IfOk result (λ s. Narrows (table_equations 0 (shapes_of_nodes nodes.items)
+        ++ map equation_of equations.items) names.now name_types (assignment_of s)) }
+    ensures clash { IfErr result (λ e. e ≡ TypesError.Clash → IsUnsolvable (table_equations 0
+        (shapes_of_nodes nodes.items) ++ map equation_of equations.items) names.now name_types) }
 {
-    let first = begun_of(alloc, equations, names, name_types)?;
+    let first = begun_of(alloc, nodes, equations, names, name_types)?;
     let Unsolved { loaded, holes } = first;
     let (nodes, order) = settled(alloc, loaded)?;
     Ok(Solved {
@@ -200,6 +214,42 @@ fn narrowed(
         order,
         holes,
     })
+}
+
+/// The most general assignment of types to the holes of a table that is begun and of equations, as a table.
+///
+/// As `solved`, where some equations were taken in as they came (`growing`).
+pub fn solved_table(
+    alloc: Global,
+    nodes: Vec<Node>,
+    equations: Vec<(Shape, Shape)>,
+    names: &[u64],
+    name_types: u32,
+) -> Result<Solved, TypesError>
+    requires { AreFormed (shapes_of_nodes nodes.items) }
+    ensures settled { IfOk result (λ s. IsSettledTable (shapes_of_nodes s.nodes.items)) }
+    ensures order { IfOk result (λ s. AreInOrder (shapes_of_nodes s.nodes.items) s.order.items) }
+    ensures in_order { IfOk result (λ s. s.holes ≡ max (length nodes.items)
+        (hole_count (map equation_of equations.items) names.now)) }
+    ensures most_general { IfOk result (λ s. (f : Filling) →
+        IsTableSolution (shapes_of_nodes nodes.items) (map equation_of equations.items) names.now
+        name_types f
+        ↔ (IsShapeInstance (assignment_of s) f × GivesNames name_types f names.now)) }
+    ensures constrained { IfOk result (λ s. AreNames name_types (assignment_of s) names.now) }
+    ensures solvable { IfOk result (λ s. (f : Filling)
+        × IsTableSolution (shapes_of_nodes nodes.items) (map equation_of equations.items) names.now
+        name_types f) }
+    ensures clash { IfErr result (λ e. e ≡ TypesError.Clash → IsTableUnsolvable
+        (shapes_of_nodes nodes.items) (map equation_of equations.items) names.now name_types) }
+{
+    if name_types == 0 && names.len() > 0 {
+        return Err(TypesError::Clash);
+    }
+    let solved = narrowed(alloc, nodes, equations, names, name_types)?;
+    if !are_names_or_holes(name_types, &solved, names) {
+        return Err(TypesError::Clash);
+    }
+    Ok(solved)
 }
 
 /// The most general assignment of types to the holes of equations, as a table.
@@ -226,12 +276,5 @@ pub fn solved(
     ensures clash { IfErr result (λ e. e ≡ TypesError.Clash →
         IsUnsolvable (map equation_of equations.items) names.now name_types) }
 {
-    if name_types == 0 && names.len() > 0 {
-        return Err(TypesError::Clash);
-    }
-    let solved = narrowed(alloc, equations, names, name_types)?;
-    if !are_names_or_holes(name_types, &solved, names) {
-        return Err(TypesError::Clash);
-    }
-    Ok(solved)
+    solved_table(alloc, Vec::new(alloc), equations, names, name_types)
 }

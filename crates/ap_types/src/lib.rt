@@ -5,6 +5,7 @@ pub mod answers;
 pub mod entries;
 pub mod equations;
 pub mod errors;
+pub mod growing;
 pub mod holding;
 pub mod inhabitants;
 pub mod inhabited_laws;

@@ -1,14 +1,15 @@
 //! Shapes and equations put into a table.
 
-ghost use Rattle.std.specs.Prelude.{◌≡◌, ℕ, ◌+◌, ◌<◌, ◌≤◌, ◌++◌, ◌∷◌, [], List, length, map, true, false, IfOk, IfSome, OnOk};
+ghost use Rattle.std.specs.Prelude.{◌≡◌, ℕ, ◌+◌, ◌<◌, ◌≤◌, ◌++◌, ◌∷◌, [], List, length, map, IfOk, OnOk};
 ghost use Rattle.ap_defs.specs.Types.{shape_of, hole};
 ghost use Rattle.ap_types.specs.Assignments.{name_equation, name_equations};
 ghost use Rattle.ap_types.specs.Equations.{◌≐◌, equation_of, bound_of, equations_bound, names_bound};
 ghost use Rattle.ap_types.specs.Solving.{shape_at};
-ghost use Rattle.ap_types.specs.Triangular.{layer_of, shapes_of_nodes, IsFormed, AreFormed};
+ghost use Rattle.ap_types.specs.Triangular.{layer_of, shapes_of_nodes, AreFormed};
 ghost use Rattle.ap_types.specs.Loading.{lent_shapes, taken, place_in, parts_taken, entry_in};
-ghost use Rattle.ap_types.specs.Joining.{ArePairsWithin, Fills, Loads, LoadsAll};
+ghost use Rattle.ap_types.specs.Joining.{ArePairsWithin, Loads, LoadsAll};
 
+use crate::growing::put_equation;
 use crate::nodes::Node;
 use ap_defs::memory::Memory;
 use ap_defs::terms::Shape;
@@ -21,16 +22,18 @@ pub(crate) struct Loaded {
     pub(crate) pairs: Vec<(usize, usize)>,
 }
 
-/// So many open places, with room for some more.
-pub(crate) fn open_places(alloc: Global, count: usize, room: usize) -> Result<Vec<Node>, Memory>
-    ensures opened { IfOk result (λ v. (x : ℕ) → shape_at (shapes_of_nodes v.items) x ≡ hole x) }
+/// A table with open places behind its own, so many in all.
+pub(crate) fn with_places(nodes: Vec<Node>, count: usize) -> Result<Vec<Node>, Memory>
+    requires { length nodes.items ≤ count }
+    ensures same { IfOk result (λ v. (x : ℕ) → shape_at (shapes_of_nodes v.items) x
+        ≡ shape_at (shapes_of_nodes nodes.items) x) }
     ensures len { IfOk result (λ v. length v.items ≡ count) }
 {
-    let mut nodes = Vec::with_capacity(alloc, count.saturating_add(room))?;
-    for x in 0..count {
-        nodes.push(Node::Place(x))?;
+    let mut wider = nodes;
+    for x in wider.len()..count {
+        wider.push(Node::Place(x))?;
     }
-    Ok(nodes)
+    Ok(wider)
 }
 
 /// The place of a part of a shape, where the places behind `first` are those of the parts in `waiting`: a
@@ -131,127 +134,6 @@ fn load(alloc: Global, nodes: &mut Vec<Node>, t: &Shape) -> Result<usize, Memory
     }
 }
 
-/// The entry of a shape whose parts are holes, if it is one.
-fn entry_of_holes(t: &Shape) -> Option<Node>
-    ensures { IfSome result (λ n. layer_of n ≡ shape_of t.now) }
-{
-    match t {
-        Shape::Hole(x) => Some(Node::Place(*x as usize)),
-        Shape::Unit => Some(Node::Unit),
-        Shape::Names(sort) => Some(Node::Names(*sort)),
-        Shape::Base(base) => Some(Node::Base(*base)),
-        Shape::Pair(left, right) => match (&**left, &**right) {
-            (Shape::Hole(x), Shape::Hole(y)) => Some(Node::Pair(*x as usize, *y as usize)),
-            _ => None,
-        },
-        Shape::List(element) => match &**element {
-            Shape::Hole(x) => Some(Node::List(*x as usize)),
-            _ => None,
-        },
-        Shape::Abs(left, right) => match (&**left, &**right) {
-            (Shape::Hole(x), Shape::Hole(y)) => Some(Node::Abs(*x as usize, *y as usize)),
-            _ => None,
-        },
-    }
-}
-
-/// Whether a place is open, and an entry can stand for it: it is not a later place.
-fn may_stand_for(nodes: &[Node], x: usize, entry: Node) -> bool
-    requires { x < length nodes.now }
-    ensures opened { result ≡ true → shape_at (shapes_of_nodes nodes.now) x ≡ hole x }
-    ensures formed { result ≡ true → bound_of (layer_of entry) ≤ length nodes.now →
-        IsFormed (length nodes.now) x (layer_of entry) }
-{
-    let is_open = match nodes[x] {
-        Node::Place(y) => y == x,
-        _ => false,
-    };
-    match entry {
-        Node::Place(y) => is_open && y <= x,
-        _ => is_open,
-    }
-}
-
-/// Whether a place has this entry, which has no parts.
-fn has_entry(nodes: &[Node], x: usize, entry: Node) -> bool
-    requires { x < length nodes.now }
-    ensures { result ≡ true → shape_at (shapes_of_nodes nodes.now) x ≡ layer_of entry }
-{
-    match nodes[x] {
-        Node::Place(y) => match entry {
-            Node::Place(z) => y == z,
-            _ => false,
-        },
-        Node::Unit => matches!(entry, Node::Unit),
-        Node::Names(sort) => match entry {
-            Node::Names(other) => sort == other,
-            _ => false,
-        },
-        Node::Base(base) => match entry {
-            Node::Base(other) => base == other,
-            _ => false,
-        },
-        _ => false,
-    }
-}
-
-/// Puts an entry into an open place, where it can stand, and answers whether it has it now; a place that has it
-/// already stays as it is.
-fn put(nodes: &mut Vec<Node>, x: usize, entry: Node) -> bool
-    requires formed { AreFormed (shapes_of_nodes nodes.old.items) }
-    requires within { x < length nodes.old.items }
-    requires bound { bound_of (layer_of entry) ≤ length nodes.old.items }
-    ensures filled { result ≡ true →
-        Fills nodes.old.items (hole x ≐ layer_of entry) nodes.new.items }
-    ensures kept { result ≡ false → nodes.new.items ≡ nodes.old.items }
-{
-    let places = nodes.as_slice();
-    if has_entry(places, x, entry) {
-        return true;
-    }
-    if !may_stand_for(places, x, entry) {
-        return false;
-    }
-    nodes[x] = entry;
-    true
-}
-
-/// Puts a shape into the place of a hole, where that is open and the shape has no parts but holes, and answers
-/// whether it did. A place that has that shape already stays as it is.
-fn fill(nodes: &mut Vec<Node>, side: &Shape, t: &Shape) -> bool
-    requires formed { AreFormed (shapes_of_nodes nodes.old.items) }
-    requires left { bound_of (shape_of side.now) ≤ length nodes.old.items }
-    requires right { bound_of (shape_of t.now) ≤ length nodes.old.items }
-    ensures filled { result ≡ true →
-        Fills nodes.old.items (shape_of side.now ≐ shape_of t.now) nodes.new.items }
-    ensures kept { result ≡ false → nodes.new.items ≡ nodes.old.items }
-{
-    let Shape::Hole(number) = side else {
-        return false;
-    };
-    let x = *number as usize;
-    let Some(entry) = entry_of_holes(t) else {
-        return false;
-    };
-    put(nodes, x, entry)
-}
-
-/// Puts one side of an equation into the place of the other, where that is an open hole, and answers whether it
-/// did.
-fn fill_either(nodes: &mut Vec<Node>, left: &Shape, right: &Shape) -> bool
-    requires formed { AreFormed (shapes_of_nodes nodes.old.items) }
-    requires left { bound_of (shape_of left.now) ≤ length nodes.old.items }
-    requires right { bound_of (shape_of right.now) ≤ length nodes.old.items }
-    ensures filled { result ≡ true →
-        Fills nodes.old.items (shape_of left.now ≐ shape_of right.now) nodes.new.items }
-    ensures kept { result ≡ false → nodes.new.items ≡ nodes.old.items }
-{
-    if fill(nodes, left, right) {
-        return true;
-    }
-    fill(nodes, right, left)
-}
-
 /// Puts both sides of an equation into a table, with the pair of their places.
 fn load_sides(alloc: Global, loaded: Loaded, left: &Shape, right: &Shape) -> Result<Loaded, Memory>
     requires formed { AreFormed (shapes_of_nodes loaded.nodes.items) }
@@ -272,8 +154,8 @@ fn load_sides(alloc: Global, loaded: Loaded, left: &Shape, right: &Shape) -> Res
     Ok(Loaded { nodes, pairs })
 }
 
-/// Puts an equation into a table: a side without parts but holes into the place of the other, where that is an open
-/// hole, which takes no further place and leaves no pair; else both sides, with the pair of their places.
+/// Puts an equation into a table: it is taken in where it says what an open hole is, which takes no further place and
+/// leaves no pair; else both sides stand there, with the pair of their places.
 fn load_equation(
     alloc: Global,
     loaded: Loaded,
@@ -289,7 +171,7 @@ fn load_equation(
         l.pairs.items) }
 {
     let Loaded { mut nodes, pairs } = loaded;
-    if fill_either(&mut nodes, left, right) {
+    if put_equation(&mut nodes, left, right) {
         return Ok(Loaded { nodes, pairs });
     }
     load_sides(alloc, Loaded { nodes, pairs }, left, right)
@@ -322,16 +204,7 @@ fn load_name(alloc: Global, loaded: Loaded, x: u64) -> Result<Loaded, Memory>
     ensures { IfOk result (λ l. LoadsAll (shapes_of_nodes loaded.nodes.items) loaded.pairs.items
         (name_equation x ∷ []) (shapes_of_nodes l.nodes.items) l.pairs.items) }
 {
-    let Loaded { mut nodes, pairs } = loaded;
-    if put(&mut nodes, x as usize, Node::Names(0)) {
-        return Ok(Loaded { nodes, pairs });
-    }
-    load_sides(
-        alloc,
-        Loaded { nodes, pairs },
-        &Shape::Hole(x),
-        &Shape::Names(0),
-    )
+    load_equation(alloc, loaded, &Shape::Hole(x), &Shape::Names(0))
 }
 
 /// Puts the equations by which holes are the one name type into a table.

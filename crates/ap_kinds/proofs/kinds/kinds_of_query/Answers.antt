@@ -3,6 +3,7 @@ use Rattle.std.proofs.Common.{map, subst, sym}
 use Rattle.ap_defs.specs.Types.{kind_of, signature_of}
 use Rattle.ap_defs.specs.RawTerms.{raw_of}
 use Rattle.ap_defs.specs.Goals.{goal_over}
+use Rattle.ap_types.specs.Triangular.{AreFormed}
 use Rattle.ap_kinds.specs.ItemKinds.{GoalTyped}
 use Rattle.ap_kinds.specs.Systems.{EquationSystem, system_of, started}
 use Rattle.ap_kinds.specs.Reading.{name_count}
@@ -10,6 +11,14 @@ use Rattle.ap_kinds.proofs.GoalWalks.{gathers_goal}
 use Rattle.ap_kinds.proofs.Solutions.{made_started}
 use Rattle.ap_kinds.proofs.Findings.{Walks, ok_inferred, err_refused}
 use Rattle.ap_kinds.proofs.kinds.kinds_of_query.Goals as goal
+
+pub settle-requires-clause-formed : goal.settle-requires-clause-formed
+settle-requires-clause-formed c =
+    let sig = signature_of c.args.sig.now in
+    let idents = c.args.idents.now in
+    let query = goal_over raw_of c.args.goal.now in
+    let n = name_count sig in
+    subst (λ (s : EquationSystem). AreFormed s.table) (sym c.in_ok-system.ensures) (gathers_goal n sig idents query (started idents) (made_started n idents)).made.formed
 
 pub returns-clause-ok : goal.returns-clause-ok
 returns-clause-ok c =

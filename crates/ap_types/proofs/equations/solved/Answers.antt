@@ -1,38 +1,28 @@
-use Rattle.std.proofs.Common.{◌≡◌, ◌<◌, [], true, false, map, length, refl, sym, subst, rules, arith}
-use Rattle.std.proofs.lemmas.List.{nil_from_length}
-use Rattle.ap_types.specs.Equations.{equation_of}
-use Rattle.ap_types.specs.Assignments.{IsUnsolvable, AreNames}
-use Rattle.ap_types.specs.Triangular.{assignment_of}
-use Rattle.ap_types.proofs.NameLemmas.{narrows_constrained, narrows_solvable, narrows_unsolvable, unsolvable_without}
+-- A table that says nothing, and the equations.
+use Rattle.std.proofs.Common.{◌≡◌, [], List, map, ap, subst, arith}
+use Rattle.ap_types.specs.declared.nodes.Node.{Node}
+use Rattle.ap_types.specs.Equations.{equation_of, hole_count, Filling, IsSolution, IsShapeInstance, GivesNames}
+use Rattle.ap_types.specs.Assignments.{IsUnsolvable}
+use Rattle.ap_types.specs.Triangular.{shapes_of_nodes, AreFormed, assignment_of}
+use Rattle.ap_types.specs.Growing.{IsTableSolution, IsTableUnsolvable}
+use Rattle.ap_types.proofs.EquationLemmas.{empty_formed, none_most_general, none_solvable, none_unsolvable, none_count, given, given_err}
 use Rattle.ap_types.proofs.equations.solved.Goals as goal
-use Rattle.ap_types.proofs.equations.solved.Goals.{else-name_types-eq0-via-then-name_types-eq0+else-names-gt0, else-name_types-eq0-via-else-name_types-eq0}
 
-pub returns-then-names-gt0-clause-clash : goal.returns-then-names-gt0-clause-clash
-returns-then-names-gt0-clause-clash c =
-    let none : c.args.name_types ≡ 0 = c.if-name_types-eq0.true in
-    let some : 0 < length c.args.names.now = omega arith in
-    λ e. subst (IsUnsolvable (map equation_of c.args.equations.items) c.args.names.now) (sym none) (unsolvable_without (map equation_of c.args.equations.items) c.args.names.now some)
+pub solved_table-requires : goal.solved_table-requires
+solved_table-requires c = empty_formed c.new.result.items c.new.ensures.items
 
-pub returns-then-not-are_names_or_holes-clause-clash : goal.returns-then-not-are_names_or_holes-clause-clash
-returns-then-not-are_names_or_holes-clause-clash c =
-    let refused : c.are_names_or_holes.result ≡ false = search rules in
-    λ e. narrows_unsolvable (map equation_of c.args.equations.items) c.args.names.now c.args.name_types (assignment_of c.in_ok-solved.solved) c.in_ok-solved.ensures.narrows
-    (λ k. let found : c.are_names_or_holes.result ≡ true = c.are_names_or_holes.ensures.1 k in cc)
+pub returns-clause-in_order : goal.returns-clause-in_order
+returns-clause-in_order c =
+    given c.solved_table.result (λ s h. none_count c.new.result.items s.holes (hole_count (map equation_of c.args.equations.items) c.args.names.now) c.new.ensures.items h) c.solved_table.ensures.in_order
 
-named : (c : goal.Else-not-are_names_or_holes) → (c.args.name_types ≡ 0 → c.args.names.now ≡ [])
-named c = elim c.else-name_types-eq0.branch [
-  | else-name_types-eq0-via-then-name_types-eq0+else-names-gt0 w ↦ λ e. nil_from_length c.args.names.now (omega arith)
-  | else-name_types-eq0-via-else-name_types-eq0 w ↦ λ e. absurd (omega arith)
-]
-
-names_are : (c : goal.Else-not-are_names_or_holes) → AreNames c.args.name_types (assignment_of c.in_ok-solved.solved) c.args.names.now
-names_are c =
-    narrows_constrained (map equation_of c.args.equations.items) c.args.names.now c.args.name_types (assignment_of c.in_ok-solved.solved) c.in_ok-solved.ensures.narrows (named c)
-    (c.if-not-are_names_or_holes.ensures.0 refl)
-
-pub returns-clause-constrained : goal.returns-clause-constrained
-returns-clause-constrained c = names_are c
+pub returns-clause-most_general : goal.returns-clause-most_general
+returns-clause-most_general c =
+    given c.solved_table.result (λ s h. none_most_general c.new.result.items (map equation_of c.args.equations.items) c.args.names.now c.args.name_types (assignment_of s) c.new.ensures.items h) c.solved_table.ensures.most_general
 
 pub returns-clause-solvable : goal.returns-clause-solvable
 returns-clause-solvable c =
-    narrows_solvable (map equation_of c.args.equations.items) c.args.names.now c.args.name_types (assignment_of c.in_ok-solved.solved) c.in_ok-solved.ensures.narrows (names_are c)
+    given c.solved_table.result (λ s h. none_solvable c.new.result.items (map equation_of c.args.equations.items) c.args.names.now c.args.name_types c.new.ensures.items h) c.solved_table.ensures.solvable
+
+pub returns-clause-clash : goal.returns-clause-clash
+returns-clause-clash c =
+    given_err c.solved_table.result (λ e h i. none_unsolvable c.new.result.items (map equation_of c.args.equations.items) c.args.names.now c.args.name_types c.new.ensures.items (h i)) c.solved_table.ensures.clash
