@@ -14,12 +14,13 @@ use Rattle.ap_answers.specs.Bindings.{binds_of}
 use Rattle.ap_answers.specs.Occurring.{more_names}
 use Rattle.ap_answers.specs.Conditions.{occurs_in}
 use Rattle.ap_answers.specs.Displays.{Shows}
+use Rattle.ap_answers.specs.VarSets.{vars_of_set}
 use Rattle.ap_answers.proofs.MembershipLemmas.{shown_filter}
 
 pub shows : (locals : List NominalLocal) (a : NominalAnswer) (d : Display) → binds_of d.binds.items ≡ shown_binds (var_texts locals) a.binds
     → d.names.keys ≡ more_names (local_names zero locals) (names_of_terms (terms_of_binds (binds_of d.binds.items)))
-    → d.vars.keys ≡ first_vars [] (vars_of_terms (terms_of_binds (binds_of d.binds.items)))
-    → d.conds.items ≡ sort_conds (printed_before d.names.keys d.vars.keys) (filter (occurs_in d.names.keys d.vars.keys) a.conds)
+    → vars_of_set d.vars ≡ first_vars [] (vars_of_terms (terms_of_binds (binds_of d.binds.items)))
+    → d.conds.items ≡ sort_conds (printed_before d.names.keys (vars_of_set d.vars)) (filter (occurs_in d.names.keys (vars_of_set d.vars)) a.conds)
     → Shows locals d (shown_in locals a)
 shows locals a d b n v c =
     let names = n ∙ ap (λ (ds : List ShownBind). more_names (local_names zero locals) (names_of_terms (terms_of_binds ds))) b in

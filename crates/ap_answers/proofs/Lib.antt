@@ -15,3 +15,5 @@ pub mod WordLemmas
 pub mod FreeLemmas
 pub mod NumberedLemmas
 pub mod LocalLemmas
+pub mod VarSetLemmas
+pub mod CountedLemmas

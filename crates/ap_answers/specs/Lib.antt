@@ -12,3 +12,4 @@ pub mod Separated
 pub mod Runs
 pub mod Queries
 pub mod SoundlyShown
+pub mod VarSets

@@ -4,7 +4,8 @@ use Rattle.ap_defs.specs.Permutations.{name_eq}
 use Rattle.ap_defs.specs.Freshness.{var_eq}
 use Rattle.ap_defs.specs.Types.{constructor_of}
 use Rattle.ap_defs.specs.Printing.{Spelling}
-use Rattle.ap_answers.specs.Words.{numbered_words}
+use Rattle.ap_answers.specs.VarSets.{vars_of_set}
+use Rattle.ap_answers.specs.Words.{counted_words, numbered_words}
 use Rattle.ap_answers.specs.declared.speller.NameTexts.{NameTexts}
 use Rattle.ap_answers.specs.declared.speller.NameTexts.TheVariants as name_texts
 use Rattle.ap_answers.specs.declared.speller.Speller.{Speller}
@@ -15,6 +16,7 @@ use Rattle.ap_answers.specs.declared.speller.VarTexts.TheVariants as texts
 abbrev pub texts_of : VarTexts → List (List ℕ)
 texts_of (texts.Written ts) = ts.items
 texts_of (texts.Numbered ns) = numbered_words (codes "_") ns.items
+texts_of (texts.Counted n) = counted_words (codes "_") n
 
 abbrev pub name_texts_of : NameTexts → List (List ℕ)
 name_texts_of (name_texts.Written ts) = ts.items
@@ -27,6 +29,6 @@ text_at texts (Some i) = unwrap_or (slice_get texts i) []
 abbrev pub spelling_in : Speller → Spelling
 spelling_in s = record {
   names = λ a. text_at (name_texts_of s.name_texts) (position (name_eq a) s.names.now.keys);
-  vars = λ x. text_at (texts_of s.var_texts) (position (var_eq x) s.vars.now.keys);
+  vars = λ x. text_at (texts_of s.var_texts) (position (var_eq x) (vars_of_set s.vars.now));
   constructors = map constructor_of s.constructors.now;
 }

@@ -19,6 +19,10 @@ free_numbers letter words i n = filter (λ k. not (has_word (letter ++ decimal k
 abbrev pub numbered_words : List ℕ → List ℕ → List (List ℕ)
 numbered_words letter numbers = map (λ k. letter ++ decimal k) numbers
 
+-- the words of a letter with 1, 2, 3 and so on, so many
+abbrev pub counted_words : List ℕ → ℕ → List (List ℕ)
+counted_words letter n = numbered_words letter (range_with_len 1 n)
+
 -- no word is the letter with a number behind it
 abbrev pub NoneNumbered : List ℕ → List (List ℕ) → Type 0
 NoneNumbered letter words = (n : ℕ) → n < 2 ^ 64 → has_word (letter ++ decimal n) words ≡ false

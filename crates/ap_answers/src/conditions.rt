@@ -3,10 +3,12 @@
 ghost use Rattle.std.specs.Prelude.{◌≡◌, false, IfOk, OnOk, MatchOption, filter};
 ghost use Rattle.ap_defs.specs.Lines.{sort_conds, printed_before};
 ghost use Rattle.ap_answers.specs.Conditions.{occurs_in, Occurs, placed_cmp};
+ghost use Rattle.ap_answers.specs.VarSets.{vars_of_set};
 ghost use Rattle.std.specs.BTreeMap.{insert_entry};
 
+use crate::var_sets::VarSet;
 use ap_defs::memory::Memory;
-use ap_defs::terms::{Cond, Name, Var};
+use ap_defs::terms::{Cond, Name};
 use indexmap::IndexSet;
 use std::alloc::Global;
 use std::collections::BTreeMap;
@@ -25,12 +27,13 @@ fn keep(placed: &mut Placed, key: (usize, usize, usize), cond: Cond) -> Result<(
 }
 
 /// The places of a condition's variable and of its name, if both occur.
-#[tactic(auto, unfolding(ap_defs::specs::Permutations::name_eq))]
-fn places(names: &IndexSet<Name>, vars: &IndexSet<Var>, cond: &Cond) -> Option<(usize, usize)>
-    ensures { MatchOption result (occurs_in names.now.keys vars.now.keys cond.now ≡ false) (λ at.
-        Occurs names.now.keys vars.now.keys cond.now at.0 at.1) }
+#[tactic(auto, using(crate::proofs::VarSetLemmas::place_some, crate::proofs::VarSetLemmas::place_none), unfolding(ap_defs::specs::Permutations::name_eq))]
+fn places(names: &IndexSet<Name>, vars: &VarSet, cond: &Cond) -> Option<(usize, usize)>
+    ensures { MatchOption result
+        (occurs_in names.now.keys (vars_of_set vars.now) cond.now ≡ false)
+        (λ at. Occurs names.now.keys (vars_of_set vars.now) cond.now at.0 at.1) }
 {
-    let var = vars.get_index_of(&cond.var)?;
+    let var = vars.place(cond.var)?;
     let name = names.get_index_of(&cond.name)?;
     Some((var, name))
 }
@@ -39,12 +42,12 @@ fn places(names: &IndexSet<Name>, vars: &IndexSet<Var>, cond: &Cond) -> Option<(
 pub fn shown_conditions(
     alloc: Global,
     names: &IndexSet<Name>,
-    vars: &IndexSet<Var>,
+    vars: &VarSet,
     conds: &[Cond],
 ) -> Result<Vec<Cond>, Memory>
     ensures { IfOk result (λ shown. shown.items
-        ≡ sort_conds (printed_before names.now.keys vars.now.keys) (filter
-        (occurs_in names.now.keys vars.now.keys) conds.now)) }
+        ≡ sort_conds (printed_before names.now.keys (vars_of_set vars.now)) (filter
+        (occurs_in names.now.keys (vars_of_set vars.now)) conds.now)) }
 {
     let mut placed = BTreeMap::new(alloc);
     let mut left = conds.len();

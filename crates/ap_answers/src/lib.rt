@@ -12,4 +12,5 @@ mod report;
 pub mod shown;
 pub mod speller;
 pub mod text;
+pub mod var_sets;
 pub mod words;

@@ -64,7 +64,7 @@ fn add_swapped(names: &mut IndexSet<Name>, swaps: &[Swap]) -> Result<(), Memory>
 }
 
 /// Adds the names that stand at a part of a term itself.
-fn add_names_at(names: &mut IndexSet<Name>, part: &Term) -> Result<(), Memory>
+pub(crate) fn add_names_at(names: &mut IndexSet<Name>, part: &Term) -> Result<(), Memory>
     ensures { OnOk result (names.new.keys
         ≡ more_names names.old.keys (names_at (term_of part.now))) }
 {
@@ -111,26 +111,6 @@ pub fn add_vars(alloc: Global, vars: &mut IndexSet<Var>, term: &Term) -> Result<
 {
     let mut parts = Parts::of(alloc, term)?;
     while let Some(part) = parts.next()? {
-        add_vars_at(vars, part)?;
-    }
-    Ok(())
-}
-
-/// Adds the names and the variables of a term, as they are read, in one walk.
-pub(crate) fn add_names_and_vars(
-    alloc: Global,
-    names: &mut IndexSet<Name>,
-    vars: &mut IndexSet<Var>,
-    term: &Term,
-) -> Result<(), Memory>
-    ensures names { OnOk result (names.new.keys
-        ≡ more_names names.old.keys (names_then (term_of term.now) [])) }
-    ensures vars { OnOk result (vars.new.keys
-        ≡ more_vars vars.old.keys (vars_then (term_of term.now) [])) }
-{
-    let mut parts = Parts::of(alloc, term)?;
-    while let Some(part) = parts.next()? {
-        add_names_at(names, part)?;
         add_vars_at(vars, part)?;
     }
     Ok(())

@@ -1,15 +1,17 @@
 //! How the names, variables and constructors of an answer are spelled.
 
-ghost use Rattle.std.specs.Prelude.{◌≡◌, zero, [], ◌∷◌, ◌++◌, Some, codes, position, slice_get, OnOk, IfOk, IfSome};
-ghost use Rattle.ap_defs.specs.Freshness.{var_eq};
+ghost use Rattle.std.specs.Prelude.{◌≡◌, zero, [], ◌∷◌, ◌++◌, Some, codes, decimal, OnOk, IfOk};
 ghost use Rattle.ap_defs.specs.Types.{locals_of};
 ghost use Rattle.ap_defs.specs.Goals.{program_of};
 ghost use Rattle.ap_defs.specs.Renaming.{local_names};
 ghost use Rattle.ap_defs.specs.Lines.{NominalShown, spelling_for};
-ghost use Rattle.ap_answers.specs.Words.{IsTaken, numbered_words};
+ghost use Rattle.ap_defs.specs.Printing.{new_words};
+ghost use Rattle.ap_answers.specs.Words.{IsTaken, counted_words, numbered_words};
 ghost use Rattle.ap_answers.specs.Spelled.{name_texts_of, spelling_in, text_at, texts_of};
+ghost use Rattle.ap_answers.specs.VarSets.{vars_of_set};
 
 use crate::locals::free_name_texts;
+use crate::var_sets::VarSet;
 use crate::words::{Taken, generated_numbers};
 use ap_defs::goals::{Constructor, Local, Program};
 use ap_defs::lists::{SharedText, Text};
@@ -19,11 +21,13 @@ use indexmap::IndexSet;
 use itoa::Buffer;
 use std::alloc::Global;
 
-/// The texts of variables: as they are written, or as the numbers of `_1`, `_2` and so on, which take less room.
+/// The texts of variables: as they are written, or as the numbers of `_1`, `_2` and so on, which take less room. All
+/// such texts up to a number take none.
 #[derive(Drop)]
 pub enum VarTexts {
     Written(Vec<Text>),
     Numbered(Vec<u64>),
+    Counted(usize),
 }
 
 /// The texts of names: as they are written, or those of a query's free names, which it shares, and then the numbers of
@@ -40,7 +44,7 @@ pub enum NameTexts {
 pub struct Speller<'a> {
     pub names: &'a IndexSet<Name>,
     pub name_texts: NameTexts,
-    pub vars: &'a IndexSet<Var>,
+    pub vars: &'a VarSet,
     pub var_texts: VarTexts,
     pub constructors: &'a [Constructor],
 }
@@ -52,6 +56,16 @@ fn write_at(out: &mut Vec<u8>, texts: &[Text], place: usize) -> Result<(), Memor
     if let Some(text) = texts.get(place) {
         out.extend_from_slice(text.as_str().as_bytes())?;
     }
+    Ok(())
+}
+
+/// Writes a letter with a number.
+fn write_numbered(out: &mut Vec<u8>, letter: u8, number: u64) -> Result<(), Memory>
+    ensures { OnOk result (out.new.items ≡ out.old.items ++ (letter ∷ decimal number)) }
+{
+    let mut digits = Buffer::new();
+    out.push(letter)?;
+    out.extend_from_slice(digits.format(number).as_bytes())?;
     Ok(())
 }
 
@@ -67,9 +81,18 @@ fn write_numbered_at(
         ≡ out.old.items ++ text_at (numbered_words (letter ∷ []) numbers.now) (Some place)) }
 {
     if let Some(number) = numbers.get(place) {
-        let mut digits = Buffer::new();
-        out.push(letter)?;
-        out.extend_from_slice(digits.format(*number).as_bytes())?;
+        write_numbered(out, letter, *number)?;
+    }
+    Ok(())
+}
+
+/// Writes the text at this place among so many that are all numbered, if there is one.
+fn write_counted_at(out: &mut Vec<u8>, count: usize, place: usize) -> Result<(), Memory>
+    ensures { OnOk result (out.new.items
+        ≡ out.old.items ++ text_at (counted_words (codes "_") count) (Some place)) }
+{
+    if place < count {
+        write_numbered(out, b'_', place as u64 + 1)?;
     }
     Ok(())
 }
@@ -114,30 +137,7 @@ fn write_var_at(out: &mut Vec<u8>, texts: &VarTexts, place: usize) -> Result<(),
     match texts {
         VarTexts::Written(written) => write_at(out, written.as_slice(), place),
         VarTexts::Numbered(numbers) => write_numbered_at(out, b'_', numbers.as_slice(), place),
-    }
-}
-
-/// The place that a variable has where those before it, down to the first one, have all numbers between.
-fn place_by_number(vars: &[Var], var: Var) -> Option<usize>
-    ensures { IfSome result (λ i. slice_get vars.now i ≡ Some var) }
-{
-    let first = vars.first()?;
-    let near = var.num.saturating_sub(first.num) as usize;
-    let there = vars.get(near)?;
-    if there.num == var.num {
-        Some(near)
-    } else {
-        None
-    }
-}
-
-/// The place of a variable among others. It is looked up, unless its number tells it.
-fn place_of(vars: &IndexSet<Var>, var: Var) -> Option<usize>
-    ensures { result ≡ position (var_eq var) vars.now.keys }
-{
-    match place_by_number(vars.as_slice(), var) {
-        Some(place) => Some(place),
-        None => vars.get_index_of(&var),
+        VarTexts::Counted(count) => write_counted_at(out, *count, place),
     }
 }
 
@@ -157,11 +157,32 @@ impl Speller<'_> {
     pub fn write_var(&self, out: &mut Vec<u8>, var: Var) -> Result<(), Memory>
         ensures { OnOk result (out.new.items ≡ out.old.items ++ (spelling_in self.now).vars var) }
     {
-        if let Some(place) = place_of(self.vars, var) {
+        if let Some(place) = self.vars.place(var) {
             write_var_at(out, &self.var_texts, place)?;
         }
         Ok(())
     }
+}
+
+/// The generated texts of so many variables. Where no word of the text is like one, they are all that there are.
+#[tactic(auto, using(crate::proofs::CountedLemmas::counted_new))]
+fn var_texts_for(
+    alloc: Global,
+    words: &[Text],
+    taken: &Taken<'_>,
+    count: usize,
+) -> Result<VarTexts, Memory>
+    requires { IsTaken words.now taken.now }
+    ensures { IfOk result (λ texts. texts_of texts ≡ new_words (codes "_") words.now count) }
+{
+    let Some(_) = count.checked_add(words.len()) else {
+        return Err(Memory);
+    };
+    if taken.vars.none_taken {
+        return Ok(VarTexts::Counted(count));
+    }
+    let numbers = generated_numbers(alloc, "_", words, &taken.words, &taken.vars, count)?;
+    Ok(VarTexts::Numbered(numbers))
 }
 
 /// The speller for an answer that shows these names and variables: the query's free names first, which
@@ -172,25 +193,25 @@ pub fn speller_for<'a>(
     taken: &Taken<'_>,
     locals: &[Local],
     names: &'a IndexSet<Name>,
-    vars: &'a IndexSet<Var>,
+    vars: &'a VarSet,
 ) -> Result<Speller<'a>, Memory>
     requires { IsTaken program.now.words taken.now }
     ensures { IfOk result (λ by. (s : NominalShown) →
         names.now.keys ≡ local_names zero (locals_of locals.now) ++ s.names →
-        vars.now.keys ≡ s.vars →
+        vars_of_set vars.now ≡ s.vars →
         spelling_in by ≡ spelling_for (program_of program.now) (locals_of locals.now) s) }
 {
     let words = program.words.items();
     let shared = free_name_texts(alloc, locals)?;
     let others = names.len().saturating_sub(shared.len());
     let made = generated_numbers(alloc, "n", words, &taken.words, &taken.names, others)?;
-    let numbers = generated_numbers(alloc, "_", words, &taken.words, &taken.vars, vars.len())?;
+    let var_texts = var_texts_for(alloc, words, taken, vars.len())?;
     let constructors = program.signature.constructors.items();
     Ok(Speller {
         names,
         name_texts: NameTexts::Numbered(shared, made),
         vars,
-        var_texts: VarTexts::Numbered(numbers),
+        var_texts,
         constructors,
     })
 }

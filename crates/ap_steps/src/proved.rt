@@ -22,6 +22,7 @@ use crate::writers::Writer;
 use ap_answers::answers::write_shown;
 use ap_answers::bindings::shown_bindings;
 use ap_answers::speller::{NameTexts, Speller, VarTexts};
+use ap_answers::var_sets::VarSet;
 use ap_defs::goals::{Local, Program, Query};
 use ap_defs::lists::{List, Text};
 use ap_defs::memory::Memory;
@@ -127,6 +128,7 @@ pub fn steps_of(
         var_words,
         ..
     } = spelt;
+    let vars = VarSet::Table(vars);
     let by = Speller {
         names: &names,
         name_texts: NameTexts::Written(name_words),

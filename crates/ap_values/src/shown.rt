@@ -44,7 +44,7 @@ fn shown_of(alloc: Global, locals: &[Local], display: &Display<'_>) -> Result<Sh
     let conds = display.conds.as_slice().to_vec(alloc)?;
     let (_, others) = display.names.as_slice().split_at(own);
     let names = others.to_vec(alloc)?;
-    let vars = display.vars.as_slice().to_vec(alloc)?;
+    let vars = display.vars.to_vec(alloc)?;
     Ok(Shown {
         binds: List::of(binds),
         conds: List::of(conds),

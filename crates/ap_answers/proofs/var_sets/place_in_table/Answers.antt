@@ -1,6 +1,6 @@
 use Rattle.std.proofs.Common.{sym, ap, ◌∙◌, slice_get}
 use Rattle.ap_answers.proofs.PlaceLemmas.{place_found}
-use Rattle.ap_answers.proofs.speller.place_of.Goals as goal
+use Rattle.ap_answers.proofs.var_sets.place_in_table.Goals as goal
 
 pub returns-in-Some : goal.returns-in-Some
 returns-in-Some c =
