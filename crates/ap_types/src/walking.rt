@@ -1,6 +1,6 @@
 //! Whether a place of a table stands within itself.
 
-ghost use Rattle.std.specs.Prelude.{◌≡◌, ℕ, ◌<◌, ◌≤◌, ◌+◌, ◌++◌, ◌∷◌, [], slice_set, length, true, false, MatchOption, IfOk, IfErr};
+ghost use Rattle.std.specs.Prelude.{◌≡◌, ℕ, ◌<◌, ◌≤◌, ◌+◌, ◌++◌, ◌∷◌, [], slice_set, length, true, false, MatchOption, IfOk, OnOk, IfErr};
 ghost use Rattle.ap_types.specs.Triangular.{shapes_of_nodes, AreFormed, IsSettledTable};
 ghost use Rattle.ap_types.specs.Walking.{IsPart, walk_mark_at, is_left, is_unvisited, IsWalk, AreInOrder, PassesAlong, HasLeft, NoneFits};
 
@@ -69,118 +69,104 @@ fn waiting_part(nodes: &[Node], marks: &[Mark], x: usize) -> Option<usize>
     }
 }
 
-/// The walk after it entered a place.
-fn enter(walk: Walk, x: usize) -> Result<Walk, Memory>
-    requires { x < length walk.marks.items }
-    ensures marks { IfOk result (λ w. w.marks.items ≡ slice_set walk.marks.items x Mark.Entered) }
-    ensures order { IfOk result (λ w. w.order.items ≡ walk.order.items) }
-    ensures path { IfOk result (λ w. w.path.items ≡ walk.path.items ++ x ∷ []) }
+/// Enters a place.
+fn enter(walk: &mut Walk, x: usize) -> Result<(), Memory>
+    requires { x < length walk.old.marks.items }
+    ensures marks { OnOk result (walk.new.marks.items
+        ≡ slice_set walk.old.marks.items x Mark.Entered) }
+    ensures order { OnOk result (walk.new.order.items ≡ walk.old.order.items) }
+    ensures path { OnOk result (walk.new.path.items ≡ walk.old.path.items ++ x ∷ []) }
 {
-    let Walk {
-        mut marks,
-        order,
-        mut path,
-    } = walk;
-    marks[x] = Mark::Entered;
-    path.push(x)?;
-    Ok(Walk { marks, order, path })
+    walk.marks[x] = Mark::Entered;
+    walk.path.push(x)?;
+    Ok(())
 }
 
-/// The walk after it left a place.
-fn leave(walk: Walk, x: usize) -> Result<Walk, Memory>
-    requires { x < length walk.marks.items }
-    ensures marks { IfOk result (λ w. w.marks.items
-        ≡ slice_set walk.marks.items x (Mark.Left (length walk.order.items))) }
-    ensures order { IfOk result (λ w. w.order.items ≡ walk.order.items ++ x ∷ []) }
-    ensures path { IfOk result (λ w. w.path.items ≡ walk.path.items) }
+/// Leaves a place.
+fn leave(walk: &mut Walk, x: usize) -> Result<(), Memory>
+    requires { x < length walk.old.marks.items }
+    ensures marks { OnOk result (walk.new.marks.items
+        ≡ slice_set walk.old.marks.items x (Mark.Left (length walk.old.order.items))) }
+    ensures order { OnOk result (walk.new.order.items ≡ walk.old.order.items ++ x ∷ []) }
+    ensures path { OnOk result (walk.new.path.items ≡ walk.old.path.items) }
 {
-    let Walk {
-        mut marks,
-        mut order,
-        path,
-    } = walk;
-    marks[x] = Mark::Left(order.len());
-    order.push(x)?;
-    Ok(Walk { marks, order, path })
+    let count = walk.order.len();
+    walk.marks[x] = Mark::Left(count);
+    walk.order.push(x)?;
+    Ok(())
 }
 
 /// Goes back from the last place of a path where its parts were left, or else on to one of them; that
 /// one stands on the path already where it was entered.
-fn pass(nodes: &[Node], walk: Walk, last: usize) -> Result<Walk, TypesError>
+fn pass(nodes: &[Node], walk: &mut Walk, last: usize) -> Result<(), TypesError>
     requires formed { AreFormed (shapes_of_nodes nodes.now) }
-    requires walk { IsWalk (shapes_of_nodes nodes.now) walk.marks.items walk.order.items
-        (walk.path.items ++ last ∷ []) }
-    ensures ok { IfOk result (λ w. PassesAlong (shapes_of_nodes nodes.now) walk.marks.items
-        (walk.path.items ++ last ∷ []) w.marks.items w.order.items w.path.items) }
+    requires walk { IsWalk (shapes_of_nodes nodes.now) walk.old.marks.items walk.old.order.items
+        (walk.old.path.items ++ last ∷ []) }
+    ensures ok { OnOk result (PassesAlong (shapes_of_nodes nodes.now) walk.old.marks.items
+        (walk.old.path.items ++ last ∷ []) walk.new.marks.items walk.new.order.items
+        walk.new.path.items) }
     ensures clash { IfErr result (λ e. e ≡ TypesError.Clash →
         NoneFits (shapes_of_nodes nodes.now)) }
 {
     let marks = walk.marks.as_slice();
     if is_left(marks, last) {
-        return Ok(walk);
+        return Ok(());
     }
     match waiting_part(nodes, marks, last) {
-        None => Ok(leave(walk, last)?),
+        None => leave(walk, last)?,
         Some(c) => {
             if !is_new(marks, c) {
                 return Err(TypesError::Clash);
             }
-            let Walk {
-                marks,
-                order,
-                mut path,
-            } = walk;
-            path.push(last)?;
-            let walk = enter(Walk { marks, order, path }, c)?;
-            Ok(walk)
+            walk.path.push(last)?;
+            enter(walk, c)?;
         }
     }
+    Ok(())
 }
 
-/// The walk after it left a place and all that stands within it.
-fn explore_parts(nodes: &[Node], walk: Walk, start: usize) -> Result<Walk, TypesError>
+/// Leaves a place and all that stands within it.
+fn explore_parts(nodes: &[Node], walk: &mut Walk, start: usize) -> Result<(), TypesError>
     requires formed { AreFormed (shapes_of_nodes nodes.now) }
     requires within { start < length nodes.now }
-    requires walk { IsWalk (shapes_of_nodes nodes.now) walk.marks.items walk.order.items [] }
-    requires path { walk.path.items ≡ [] }
-    ensures left { IfOk result (λ w. HasLeft (shapes_of_nodes nodes.now) walk.marks.items start
-        w.marks.items w.order.items) }
-    ensures path { IfOk result (λ w. w.path.items ≡ []) }
+    requires walk { IsWalk (shapes_of_nodes nodes.now) walk.old.marks.items walk.old.order.items
+        [] }
+    requires path { walk.old.path.items ≡ [] }
+    ensures left { OnOk result (HasLeft (shapes_of_nodes nodes.now) walk.old.marks.items start
+        walk.new.marks.items walk.new.order.items) }
+    ensures path { OnOk result (walk.new.path.items ≡ []) }
     ensures clash { IfErr result (λ e. e ≡ TypesError.Clash →
         NoneFits (shapes_of_nodes nodes.now)) }
 {
-    let Walk {
-        marks,
-        order,
-        mut path,
-    } = walk;
-    path.push(start)?;
-    let mut now = Walk { marks, order, path };
-    'steps: while let Some(last) = now.path.pop() {
-        now = pass(nodes, now, last)?;
+    walk.path.push(start)?;
+    'steps: while let Some(last) = walk.path.pop() {
+        pass(nodes, walk, last)?;
     }
-    Ok(now)
+    Ok(())
 }
 
-/// The walk after it left a place and all that stands within it. A place whose parts were left is left at
-/// once.
-fn explore(nodes: &[Node], walk: Walk, start: usize) -> Result<Walk, TypesError>
+/// Leaves a place and all that stands within it. A place whose parts were left is left at once.
+fn explore(nodes: &[Node], walk: &mut Walk, start: usize) -> Result<(), TypesError>
     requires formed { AreFormed (shapes_of_nodes nodes.now) }
     requires within { start < length nodes.now }
-    requires walk { IsWalk (shapes_of_nodes nodes.now) walk.marks.items walk.order.items [] }
-    requires path { walk.path.items ≡ [] }
-    ensures left { IfOk result (λ w. HasLeft (shapes_of_nodes nodes.now) walk.marks.items start
-        w.marks.items w.order.items) }
-    ensures path { IfOk result (λ w. w.path.items ≡ []) }
+    requires walk { IsWalk (shapes_of_nodes nodes.now) walk.old.marks.items walk.old.order.items
+        [] }
+    requires path { walk.old.path.items ≡ [] }
+    ensures left { OnOk result (HasLeft (shapes_of_nodes nodes.now) walk.old.marks.items start
+        walk.new.marks.items walk.new.order.items) }
+    ensures path { OnOk result (walk.new.path.items ≡ []) }
     ensures clash { IfErr result (λ e. e ≡ TypesError.Clash →
         NoneFits (shapes_of_nodes nodes.now)) }
 {
     let marks = walk.marks.as_slice();
     if is_left(marks, start) {
-        return Ok(walk);
+        return Ok(());
     }
     match waiting_part(nodes, marks, start) {
-        None => Ok(leave(walk, start)?),
+        None => {
+            leave(walk, start)?;
+            Ok(())
+        }
         Some(_) => explore_parts(nodes, walk, start),
     }
 }
@@ -199,7 +185,7 @@ pub(crate) fn in_order(alloc: Global, nodes: &[Node]) -> Result<Vec<usize>, Type
         path: Vec::new(alloc),
     };
     for x in 0..nodes.len() {
-        walk = explore(nodes, walk, x)?;
+        explore(nodes, &mut walk, x)?;
     }
     let Walk { order, .. } = walk;
     Ok(order)

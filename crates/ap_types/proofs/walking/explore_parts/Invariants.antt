@@ -6,7 +6,7 @@ use Rattle.ap_types.proofs.WalkLemmas.{Explores}
 use Rattle.ap_types.proofs.walking.explore_parts.Given as goal
 
 abbrev pub invariant-steps : goal.invariant-steps
-invariant-steps l = Explores (shapes_of_nodes l.nodes) l.fn.walk.marks.items l.start l.now.marks.items l.now.order.items l.now.path.items
+invariant-steps l = Explores (shapes_of_nodes l.nodes) l.fn.walk.marks.items l.start l.walk.marks.items l.walk.order.items l.walk.path.items
 
 abbrev pub decreases-steps : goal.decreases-steps
-decreases-steps l = length l.now.path.items + 2 * new_count l.now.marks.items
+decreases-steps l = length l.walk.path.items + 2 * new_count l.walk.marks.items

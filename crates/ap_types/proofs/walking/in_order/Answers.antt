@@ -1,9 +1,15 @@
 use Rattle.std.proofs.Common.{arith}
+use Rattle.std.proofs.lemmas.Result.{err_from_is_err_and}
 use Rattle.ap_types.specs.Triangular.{shapes_of_nodes}
 use Rattle.ap_types.proofs.TableLemmas.{length_table}
 use Rattle.ap_types.proofs.OrderLemmas.{all_in_order}
 use Rattle.ap_types.proofs.WalkLemmas.{walk_settles}
 use Rattle.ap_types.proofs.walking.in_order.Goals as goal
+
+pub returns-in_err-explore-clause-clash : goal.returns-in_err-explore-clause-clash
+returns-in_err-explore-clause-clash c =
+    let p = err_from_is_err_and c.from_residual-in_err-explore.result c.from_residual-in_err-explore.ensures.1 in
+    rw (p.1, p.2) (λ i. c.in_err-explore.ensures.clash i)
 
 pub returns-clause-ok : goal.returns-clause-ok
 returns-clause-ok c =
