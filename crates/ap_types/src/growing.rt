@@ -130,7 +130,8 @@ fn is_open(x: usize, entry: Node) -> bool
 
 /// Puts an entry at the place of a hole, where it can stand, and answers whether it stands there.
 fn put_at(nodes: &mut Vec<Node>, x: usize, entry: Node) -> bool
-    ensures put { result ≡ true → put_hole (shapes_of_nodes nodes.old.items) (hole x) (layer_of entry)
+    ensures put { result ≡ true →
+        put_hole (shapes_of_nodes nodes.old.items) (hole x) (layer_of entry)
         ≡ Some (shapes_of_nodes nodes.new.items) }
     ensures none { result ≡ false →
         put_hole (shapes_of_nodes nodes.old.items) (hole x) (layer_of entry) ≡ None }

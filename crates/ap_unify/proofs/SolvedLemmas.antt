@@ -31,7 +31,7 @@ use Rattle.ap_unify.proofs.AlikeLemmas.{alike_itself, under_none}
 use Rattle.ap_unify.proofs.SoundLemmas.{awaited_follows, awaits_on, follows_on, front_first}
 use Rattle.ap_unify.specs.Needless.{Follows, all_but_last}
 use Rattle.ap_unify.specs.Parts.{LeadsTo}
-use Rattle.ap_unify.specs.Solved.{AllAwaited, AllKnown, AreSolved, AreSolvedAfter, IsAwaited, IsSolved, IsSolvedBefore, suspensions_equation}
+use Rattle.ap_unify.specs.Solved.{AllAwaited, AllKnown, AreSolved, AreSolvedAfter, IsAwaited, IsSolvedIn, IsSolvedBefore, suspensions_equation}
 use Rattle.ap_unify.specs.declared.solved.Awaited.{Awaited}
 use Rattle.ap_unify.specs.declared.solved.Solved.{Solved}
 use Rattle.ap_unify.specs.declared.solved.Suspensions.{Suspensions}
@@ -84,19 +84,19 @@ module _ (p q : List Swap) (t u : NominalTerm) where
       (iff_trans (Equal_move d p v (act_term q w))
       (iff_trans ((λ h. Equal_same d v same h), (λ h. Equal_same d v (same_sym same) h)) (iff_same (λ (z : NominalTerm). Equal d v z) (sym (applied_act s c u))))))
 
-  pub known_between : (r : Stage) (qs : List Swap) → qs ≡ canonical (inverse p ++ q) → IsSolved r (t ≐ act_term qs u) → IsSolved r (act_term p t ≐ act_term q u)
+  pub known_between : (r : Stage) (qs : List Swap) → qs ≡ canonical (inverse p ++ q) → IsSolvedIn r (t ≐ act_term qs u) → IsSolvedIn r (act_term p t ≐ act_term q u)
   known_between r qs e h = λ ds s a f. (between_sides ds s).1 (subst (λ z. Equal (listed_context ds) (applied s t) (applied s (act_term z u))) e (h ds s a f))
 
   pub awaited_between : (r : Stage) (j : ℕ) (qs : List Swap) → qs ≡ canonical (inverse p ++ q) → IsSolvedBefore r j (act_term p t ≐ act_term q u) → IsSolvedBefore r j (t ≐ act_term qs u)
   awaited_between r j qs e h = λ ds s a f g. subst (λ z. Equal (listed_context ds) (applied s t) (applied s (act_term z u))) (sym e) ((between_sides ds s).0 (h ds s a f g))
 
 module _ (r : Stage) where
-  pub known_at : (es : List Suspensions) (i : ℕ) (d : Suspensions) → i < length es → AllKnown r es → IsSolved r (suspensions_equation (get_or es i d))
+  pub known_at : (es : List Suspensions) (i : ℕ) (d : Suspensions) → i < length es → AllKnown r es → IsSolvedIn r (suspensions_equation (get_or es i d))
   known_at [] i d l h = absurd (omega arith)
   known_at (e ∷ es) zero d l h = h.0
   known_at (e ∷ es) (suc i) d l h = known_at es i d (omega arith) h.1
 
-  known_more : (es : List Suspensions) (e : Suspensions) → AllKnown r es → IsSolved r (suspensions_equation e) → AllKnown r (es ++ e ∷ [])
+  known_more : (es : List Suspensions) (e : Suspensions) → AllKnown r es → IsSolvedIn r (suspensions_equation e) → AllKnown r (es ++ e ∷ [])
   known_more [] e h k = (k, tt)
   known_more (f ∷ es) e h k = (h.0, known_more es e h.1 k)
 
@@ -136,7 +136,7 @@ module _ (s : List Binding) where
   problems_set i ((a # t) ∷ ps) = rw (under_under s i t, under_none (under s t), problems_set i ps) refl
 
   -- nothing is left of an equation that is solved
-  pub solved_way : IsIdempotent s → (e : Equation) (es : List Equation) (ps : List Problem) → IsSolved (stage_under s (e ∷ es) ps) e
+  pub solved_way : IsIdempotent s → (e : Equation) (es : List Equation) (ps : List Problem) → IsSolvedIn (stage_under s (e ∷ es) ps) e
       → LeadsTo (stage_under s (e ∷ es) ps) (next (stage_under s es ps))
   solved_way i (t ≐ u) es ps h =
       let under_follows : Follows s (map (problem_under s) ps) (under s t) (under s u) = λ ds r g f.

@@ -9,8 +9,8 @@ use Rattle.ap_unify.specs.declared.solved.Solved.{Solved}
 use Rattle.ap_unify.specs.declared.solved.Suspensions.{Suspensions}
 
 -- whatever solves the problems of the stage makes both sides equal
-abbrev pub IsSolved : Stage → Equation → Type 0
-IsSolved r (t ≐ u) = Follows r.bindings r.problems t u
+abbrev pub IsSolvedIn : Stage → Equation → Type 0
+IsSolvedIn r (t ≐ u) = Follows r.bindings r.problems t u
 
 -- and where it solves the equations before the last so many
 abbrev pub IsSolvedBefore : Stage → ℕ → Equation → Type 0
@@ -22,7 +22,7 @@ suspensions_equation e = susp [] e.x ≐ act_term e.swaps.items (susp [] e.y)
 
 abbrev pub AllKnown : Stage → List Suspensions → Type 0
 AllKnown r [] = Unit {0}
-AllKnown r (e ∷ es) = IsSolved r (suspensions_equation e) × AllKnown r es
+AllKnown r (e ∷ es) = IsSolvedIn r (suspensions_equation e) × AllKnown r es
 
 abbrev pub IsAwaited : Stage → Awaited → Type 0
 IsAwaited r a = IsSolvedBefore r a.behind (suspensions_equation a.pair)

@@ -6,7 +6,7 @@ ghost use Rattle.ap_defs.specs.Substitution.{◌≐◌};
 ghost use Rattle.ap_defs.specs.Terms.{act_term, susp};
 ghost use Rattle.ap_defs.specs.Unification.{Stage};
 ghost use Rattle.ap_unify.specs.Moved.{moved_equation, waiting};
-ghost use Rattle.ap_unify.specs.Solved.{AllKnown, AreSolved, IsSolved, IsSolvedBefore, suspensions_equation};
+ghost use Rattle.ap_unify.specs.Solved.{AllKnown, AreSolved, IsSolvedIn, IsSolvedBefore, suspensions_equation};
 
 use crate::settled::variable_of;
 use crate::sides::{Sides, between};
@@ -78,8 +78,8 @@ fn is_same(x: Var, y: Var) -> bool
 /// Whether two suspensions are these variables with the swappings that wait on the sides.
 fn are_these(alloc: Global, e: &Suspensions, sides: &Sides, x: Var, y: Var) -> Result<bool, Memory>
     ensures { IfOk result (λ same. (r : Stage) → same ≡ true →
-        IsSolved r (suspensions_equation e.now) →
-        IsSolved r (act_term (waiting sides.now.left) (susp [] x)
+        IsSolvedIn r (suspensions_equation e.now) →
+        IsSolvedIn r (act_term (waiting sides.now.left) (susp [] x)
         ≐ act_term (waiting sides.now.right) (susp [] y))) }
 {
     if !is_same(e.x, x) {
@@ -103,7 +103,7 @@ fn is_at(
     y: Var,
 ) -> Result<bool, Memory>
     ensures { IfOk result (λ same. (r : Stage) → same ≡ true → AllKnown r known.now →
-        IsSolved r (act_term (waiting sides.now.left) (susp [] x)
+        IsSolvedIn r (act_term (waiting sides.now.left) (susp [] x)
         ≐ act_term (waiting sides.now.right) (susp [] y))) }
 {
     if place < known.len() {
@@ -116,7 +116,7 @@ fn is_at(
 /// Whether the equation of two variables with the swappings that wait on the sides is known to be solved.
 fn is_known(alloc: Global, solved: &Solved, sides: &Sides, x: Var, y: Var) -> Result<bool, Memory>
     ensures { IfOk result (λ same. (r : Stage) → same ≡ true → AreSolved r solved.now →
-        IsSolved r (act_term (waiting sides.now.left) (susp [] x)
+        IsSolvedIn r (act_term (waiting sides.now.left) (susp [] x)
         ≐ act_term (waiting sides.now.right) (susp [] y))) }
 {
     match solved.places.get(&(x.num, y.num)) {
@@ -191,7 +191,7 @@ fn is_solved_for(
     behind: usize,
 ) -> Result<bool, Memory>
     ensures known { IfOk result (λ same. (r : Stage) → same ≡ true → AreSolved r solved.old →
-        IsSolved r (act_term (waiting sides.now.left) (susp [] x)
+        IsSolvedIn r (act_term (waiting sides.now.left) (susp [] x)
         ≐ act_term (waiting sides.now.right) (susp [] y))) }
     ensures solved { OnOk result ((r : Stage) → AreSolved r solved.old → IsSolvedBefore r behind
         (act_term (waiting sides.now.left) (susp [] x)
@@ -216,7 +216,7 @@ pub fn is_solved(
     behind: usize,
 ) -> Result<bool, Memory>
     ensures known { IfOk result (λ same. (r : Stage) → same ≡ true → AreSolved r solved.old →
-        IsSolved r (moved_equation sides.now pair.entry)) }
+        IsSolvedIn r (moved_equation sides.now pair.entry)) }
     ensures solved { OnOk result ((r : Stage) → AreSolved r solved.old →
         IsSolvedBefore r behind (moved_equation sides.now pair.entry) → AreSolved r solved.new) }
 {

@@ -6,7 +6,7 @@ use Rattle.ap_fresh.proofs.StepLemmas.{on_ok}
 use Rattle.ap_rules.proofs.WorkLemmas.{if_ok}
 use Rattle.ap_unify.proofs.solved.is_solved.Goals as goal
 use Rattle.ap_unify.specs.Moved.{waiting}
-use Rattle.ap_unify.specs.Solved.{IsSolved, IsSolvedBefore}
+use Rattle.ap_unify.specs.Solved.{IsSolvedIn, IsSolvedBefore}
 
 pub returns-in-Some-Some-clause-known : goal.returns-in-Some-Some-clause-known
 returns-in-Some-Some-clause-known c =
@@ -14,7 +14,7 @@ returns-in-Some-Some-clause-known c =
     let l : plain_term c.args.pair.left ≡ susp [] c.in-Some-Some.x = rw c.in-Some-Some.is-0 at c.variable_of.ensures in
     let u : plain_term c.args.pair.right ≡ susp [] c.in-Some-Some.y = rw c.in-Some-Some.is-1 at c.variable_of-2.ensures in
     let e = ap₂ (λ v w. act_term (waiting m.left) v ≐ act_term (waiting m.right) w) (sym l) (sym u) in
-    if_ok c.is_solved_for.result (λ same h. λ r k a. subst (IsSolved r) e (h r k a)) c.is_solved_for.ensures.known
+    if_ok c.is_solved_for.result (λ same h. λ r k a. subst (IsSolvedIn r) e (h r k a)) c.is_solved_for.ensures.known
 
 pub returns-in-Some-Some-clause-solved : goal.returns-in-Some-Some-clause-solved
 returns-in-Some-Some-clause-solved c =
