@@ -4,7 +4,7 @@ use Rattle.std.proofs.lemmas.Bool.Decides.{nat_tests}
 use Rattle.std.specs.Prelude.{if◌then◌else◌, nat_lt, Option, Some, None}
 use Rattle.ap_defs.specs.Freshness.{Conds, add_conds, both, cond_eq, has_cond, var_eq}
 use Rattle.ap_defs.specs.Permutations.{disagreement, inverse, name_eq, swap_of}
-use Rattle.ap_defs.specs.Substitution.{Binding, Equation, Problem, put_equation, put_problem, under, ◌#◌, ◌:=◌, ◌≐◌}
+use Rattle.ap_defs.specs.Substitution.{Binding, Equation, Problem, put_equation, put_problem, ◌#◌, ◌:=◌, ◌≐◌}
 use Rattle.ap_defs.specs.Terms.{NominalTerm, abs, act_term, app, name, pair, susp, unit}
 use Rattle.ap_defs.specs.Unification.{Rule, Stage, Unified, apply_rule, bind, clash, ending, ending_after, finish, fresh_for, problem_of, reduce_all, replace, rule, run, steps_for, unified_under}
 use Rattle.ap_defs.specs.declared.terms.Cond.{Cond}

@@ -3,7 +3,7 @@ use Rattle.std.proofs.Common.{◌≡◌, ◌==◌, ◌&&◌, ◌<◌, ◌≤◌,
 use Rattle.std.proofs.lemmas.Bool.Decides.{Decides-eqb}
 use Rattle.std.proofs.lemmas.List.{length-map, length-reverse}
 use Rattle.ap_defs.specs.Canonical.{canonical}
-use Rattle.ap_defs.specs.Freshness.{Conds, both}
+use Rattle.ap_defs.specs.Freshness.{Conds}
 use Rattle.ap_defs.specs.Permutations.{inverse}
 use Rattle.ap_defs.specs.SameTerm.{SameTerm}
 use Rattle.ap_defs.specs.Substitution.{Binding, Equation, Problem, under, ◌#◌, ◌≐◌}
