@@ -81,8 +81,8 @@ pub fn outputs_with(
     outputs_of_query(alloc, clauses, p.depth, query, paths, limit)
 }
 
-/// The outputs of a query to a depth, as `outputs_with`, where the search takes few turns: none says that
-/// it takes more.
+/// The outputs of a query to a depth, as `outputs_with`, as long as the search isn't wide, which it may be
+/// once it takes more than few turns: none says that it is.
 pub fn short_outputs(
     alloc: Global,
     p: &Problem<'_>,

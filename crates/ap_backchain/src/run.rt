@@ -319,8 +319,8 @@ fn outputs_soon<'a>(
     Ok(Some(outs))
 }
 
-/// The outputs from where the search of a query begins, as `outputs_of_query`, where it takes few turns: none
-/// says that it takes more.
+/// The outputs from where the search of a query begins, as `outputs_of_query`, as long as the search isn't
+/// wide: none says that it is, and that it takes more than few turns.
 pub fn outputs_of_short_query<'a>(
     alloc: Global,
     clauses: &'a [Predicate<'a>],

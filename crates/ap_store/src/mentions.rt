@@ -16,8 +16,8 @@ use ap_defs::memory::Memory;
 use ap_defs::terms::Var;
 use std::alloc::Global;
 
-/// A binding of a variable that is newer than all others is looked at no further than this, so that a long term costs
-/// no more there.
+/// What a table binds when mentions begin to be kept, and a binding of a variable that is newer than all others, is
+/// looked at no further than this, so that a long term costs no more there.
 pub const FEW: usize = 64;
 
 /// A binding of another variable is looked at up to here.
@@ -175,7 +175,7 @@ pub fn mentions_in(alloc: Global, table: &[Slot<'_>], end: u64) -> Mentions
         marks: Vec::new(alloc),
     };
     'gathering: for i in 0..table.len() {
-        mentions.mention_found(alloc, found_at(table, i as u64, end), MANY);
+        mentions.mention_found(alloc, found_at(table, i as u64, end), FEW);
     }
     mentions
 }
