@@ -3,6 +3,7 @@
 //! state in which no goal waits.
 #![tactic(auto)]
 
+mod along;
 pub mod answer_copies;
 pub mod answers;
 pub mod brought;
