@@ -110,10 +110,10 @@ module _ (r : Stage) where
   awaited_last (b ∷ as') a h = let k = awaited_last as' a h.1 in ((h.0, k.0), k.1)
 
   -- one more is known, at the end or in the place of another one
-  pub one_known : (es fs : List Suspensions) (e : Suspensions) → fs ≡ es ++ e ∷ [] → AllKnown r es → IsSolved r (suspensions_equation e) → AllKnown r fs
+  pub one_known : (es fs : List Suspensions) (e : Suspensions) → fs ≡ es ++ e ∷ [] → AllKnown r es → IsSolvedIn r (suspensions_equation e) → AllKnown r fs
   one_known es fs e f h k = subst (AllKnown r) (sym f) (known_more es e h k)
 
-  pub known_set : (es : List Suspensions) (i : ℕ) (e : Suspensions) → AllKnown r es → IsSolved r (suspensions_equation e) → AllKnown r (slice_set es i e)
+  pub known_set : (es : List Suspensions) (i : ℕ) (e : Suspensions) → AllKnown r es → IsSolvedIn r (suspensions_equation e) → AllKnown r (slice_set es i e)
   known_set [] zero e h k = tt
   known_set [] (suc i) e h k = tt
   known_set (f ∷ es) zero e h k = (k, h.1)
@@ -121,7 +121,7 @@ module _ (r : Stage) where
 
   -- the last one that is awaited is known once no more equations are left than were behind it
   pub last_known : (k m : Solved) (a : Awaited) → length r.equations ≤ a.behind → k.awaited.items ≡ m.awaited.items ++ a ∷ []
-      → (AllKnown r k.known.items → IsSolved r (suspensions_equation a.pair) → AllKnown r m.known.items) → AreSolved r k → AreSolved r m
+      → (AllKnown r k.known.items → IsSolvedIn r (suspensions_equation a.pair) → AllKnown r m.known.items) → AreSolved r k → AreSolved r m
   last_known k m a l e f h =
       let s = awaited_last m.awaited.items a (subst (AllAwaited r) e h.1) in
       let t = susp [] a.pair.x in

@@ -172,7 +172,7 @@ fn put_behind(solved: &mut Solved, pair: Suspensions) -> Result<(), Memory>
 /// Keeps two suspensions whose equation is solved, in place of those of the same variables.
 fn learn(solved: &mut Solved, pair: Suspensions) -> Result<(), Memory>
     ensures known { OnOk result ((r : Stage) → AllKnown r solved.old.known.items →
-        IsSolved r (suspensions_equation pair) → AllKnown r solved.new.known.items) }
+        IsSolvedIn r (suspensions_equation pair) → AllKnown r solved.new.known.items) }
     ensures awaited { solved.new.awaited.items ≡ solved.old.awaited.items }
 {
     let place = place_of(solved, (pair.x.num, pair.y.num));
