@@ -6,7 +6,7 @@ ghost use Rattle.ap_defs.specs.Substitution.{◌≐◌};
 ghost use Rattle.ap_defs.specs.Terms.{act_term, susp};
 ghost use Rattle.ap_defs.specs.Unification.{Stage};
 ghost use Rattle.ap_unify.specs.Moved.{moved_equation, waiting};
-ghost use Rattle.ap_unify.specs.Solved.{AllKnown, AreSolved, IsSolvedIn, IsSolvedBefore, suspensions_equation};
+ghost use Rattle.ap_unify.specs.Solved.{AllKnown, AreSolved, IsLearnt, IsSolvedIn, IsSolvedBefore, suspensions_equation};
 
 use crate::settled::variable_of;
 use crate::sides::{Sides, between};
@@ -171,8 +171,7 @@ fn put_behind(solved: &mut Solved, pair: Suspensions) -> Result<(), Memory>
 
 /// Keeps two suspensions whose equation is solved, in place of those of the same variables.
 fn learn(solved: &mut Solved, pair: Suspensions) -> Result<(), Memory>
-    ensures known { OnOk result ((r : Stage) → AllKnown r solved.old.known.items →
-        IsSolvedIn r (suspensions_equation pair) → AllKnown r solved.new.known.items) }
+    ensures known { OnOk result (IsLearnt pair solved.old.known.items solved.new.known.items) }
     ensures awaited { solved.new.awaited.items ≡ solved.old.awaited.items }
 {
     let place = place_of(solved, (pair.x.num, pair.y.num));

@@ -9,4 +9,4 @@ taking-preserved c = λ r l h.
     let a = c.in-Some.last in
     let enough : c.args.left ≤ a.behind = omega (arith, c.if-last-left.false) in
     last_known r k m a (omega (arith, l, enough))
-    (c.in-Some.ensures.items ∙ ap (λ z. z ++ a ∷ []) (sym c.learn.ensures.awaited)) (c.in_ok-learn.ensures.known r) (c.taking.invariant r l h)
+    (c.in-Some.ensures.items ∙ ap (λ z. z ++ a ∷ []) (sym c.learn.ensures.awaited)) c.in_ok-learn.ensures.known (c.taking.invariant r l h)
