@@ -10,6 +10,6 @@ pub loop-local-preserved : goal.loop-local-preserved
 loop-local-preserved c =
     let i = c.loop-local.local-index in
     let ls = c.args.locals.now in
-    c.in_ok-keep_local.ensures (var_texts (locals_of (drop (i + 1) ls)))
+    c.in_ok-rest.ensures (var_texts (locals_of (drop (i + 1) ls)))
     ∙ ap (λ ws. binds_of c.loop-local.binds.items ++ shown_binds ws (map term_of c.loop-local.rest.now)) (sym (texts_front ls c.local-item.result i (omega arith) c.local-item.is))
     ∙ c.loop-local.invariant
