@@ -1,5 +1,5 @@
 -- The text of a term, by the form of the term.
-use Rattle.std.proofs.Common.{◌≡◌, ℕ, zero, suc, ◌-◌, ◌≤◌, ◌<◌, ◌≢◌, get_or, List, [], ◌∷◌, ◌++◌, map, length, refl, sym, ap, ◌∙◌, append_assoc, arith}
+use Rattle.std.proofs.Common.{◌≡◌, ◌==◌, false, true≢false, ℕ, zero, suc, ◌-◌, ◌≤◌, ◌<◌, ◌≢◌, get_or, List, [], ◌∷◌, ◌++◌, map, length, refl, sym, ap, ◌∙◌, append_assoc, arith}
 use Rattle.std.specs.Prelude.{Option, Some, None, slice_get, codes, replicate, reverse}
 use Rattle.std.specs.Option.{option_map}
 use Rattle.std.proofs.lemmas.Option.{slice_get_past, slice_get-get_or}
@@ -159,3 +159,26 @@ size_argument w f t n e h = let h' : size (app f t) ≤ n = rw e at h in omega a
 
 pub size_body : (w : NominalTerm) (a : Name) (t : NominalTerm) (n : ℕ) → w ≡ abs a t → size w ≤ n → size t ≤ n
 size_body w a t n e h = let h' : size (abs a t) ≤ n = rw e at h in omega arith
+
+-- a head that is written, and its tail behind it, are the parts of a cell
+pub head_passed : (by : Spelling) (w t u : NominalTerm) (o o1 k : List ℕ) → w ≡ pair t u → o1 ≡ o ++ term_at by t whole → closed_text by o1 u rest k ≡ closed_text by o w cell k
+head_passed by w t u o o1 k e h = rw (h, e) (simp append_assoc)
+
+-- a constructor whose argument is not written
+pub constant_written : (by : Spelling) (f : ℕ) (t : NominalTerm) (o o1 o2 k1 : List ℕ) → o1 ≡ o ++ opening by.constructors f whole → k1 ≡ [] ++ closing by.constructors f whole
+    → argument_place by.constructors f ≡ None → o2 ≡ o1 ++ reverse k1 → o2 ≡ o ++ term_at by (app f t) whole
+constant_written by f t o o1 o2 k1 a b d e =
+    e ∙ app_ends by (app f t) f t whole o o1 o2 [] k1 refl a b (sym d) ∙ ap (λ bs. o ++ bs) (append-nil (term_at by (app f t) whole))
+
+-- where the argument of a constructor stands that has none, or isn't declared
+pub nil_place : (cs : List NominalConstructor) (f : ℕ) → f < 2 → (f == 1) ≡ false → argument_place cs f ≡ None
+nil_place cs zero l e = refl
+nil_place cs (suc zero) l e = absurd (true≢false e)
+nil_place cs (suc (suc f)) l e = absurd (omega (arith, l))
+
+pub past_place : (cs : List Constructor) (f : ℕ) → f ≢ 0 → f ≢ 1 → length cs ≤ f - 2 → argument_place (map constructor_of cs) f ≡ None
+past_place cs f h k past = (declares_none cs f whole h k past).at
+
+pub bare_place : (cs : List Constructor) (f : ℕ) (c : Constructor) → f ≢ 0 → f ≢ 1 → f - 2 < length cs → c ≡ get_or cs (f - 2) c → length (constructor_of c).args ≡ 0
+    → argument_place (map constructor_of cs) f ≡ None
+bare_place cs f c h k within is none = (declares_some cs f c whole h k within is).at ∙ ap arguments_place none

@@ -4,6 +4,10 @@
 //! that is still to be made as a list of layers, of which the first is outermost, and then closes them.
 #![tactic(auto)]
 
+mod turning;
+
+pub use turning::{above_tail, go_up, turn_back};
+
 ghost use Rattle.std.specs.Prelude.{◌≡◌, IfOk};
 ghost use Rattle.ap_defs.specs.RawTerms.{RawTerm, raw_of, pair, abs, swapped};
 ghost use Rattle.ap_defs.specs.Goals.{GoalOver, both, either, goal_over};
