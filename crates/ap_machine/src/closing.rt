@@ -1,10 +1,10 @@
 //! Terms with all bindings carried out, in which the list of each suspension is canonical.
 
-ghost use Rattle.std.specs.Prelude.{◌≡◌, ℕ, List, ◌≤◌, ◌<◌, ◌+◌, ◌*◌, ◌++◌, ◌∷◌, [], true, IfOk, IfSome, MatchOption, OnOk};
+ghost use Rattle.std.specs.Prelude.{◌≡◌, ◌≤◌, ◌<◌, ◌+◌, ◌*◌, ◌++◌, ◌∷◌, [], true, IfOk, IfSome, MatchOption, OnOk};
 ghost use Rattle.ap_defs.specs.Canonical.{canonical, canonical_term};
 ghost use Rattle.ap_defs.specs.Renaming.{IsBelow, rename_term};
 ghost use Rattle.ap_defs.specs.Substitution.{under};
-ghost use Rattle.ap_defs.specs.Terms.{NominalTerm, act_term, app, pair, susp, term_of, unit};
+ghost use Rattle.ap_defs.specs.Terms.{NominalTerm, app, pair, susp, term_of, unit};
 ghost use Rattle.ap_defs.specs.Unification.{size};
 ghost use Rattle.ap_perm.specs.Closures.{closure_term, lent_term};
 ghost use Rattle.ap_store.specs.Heads.{IsHeadUnbound};
@@ -166,20 +166,41 @@ fn unbound(store: &Store<'_>, none: &Swaps, x: Var) -> Result<Option<Term>, Memo
     }
 }
 
-/// What a constant stands for, whatever waits on it.
-fn constant_of(alloc: Global, t: &Term) -> Result<Option<Term>, Memory>
-    ensures { IfOk result (λ o. IfSome o (λ u. (s : Store) (p : List Swap) (base : ℕ) →
-        term_of u ≡ canonical_term (under (bindings_of s)
-        (act_term p (rename_term base (term_of t.now)))))) }
+/// What a closure stands for, if that is seen at once: a constant, or a variable on which nothing waits and that is
+/// bound to nothing.
+fn leaf_of(
+    alloc: Global,
+    store: &Store<'_>,
+    none: &Swaps,
+    c: &Closure<'_>,
+) -> Result<Option<Term>, Memory>
+    requires { none.now ≡ [] }
+    ensures { IfOk result (λ o. IfSome o (λ t.
+        term_of t ≡ canonical_term (meaning_in store.now c.now))) }
 {
-    match t {
-        Term::App(f, argument) if is_unit(argument) => Ok(Some(constant(alloc, *f)?)),
+    // Its identifiers are below its end, which the sum below is.
+    let _end = c.end;
+    match c.term {
+        Term::App(f, argument) => {
+            if is_unit(argument) {
+                return Ok(Some(constant(alloc, *f)?));
+            }
+            Ok(None)
+        }
+        Term::Susp(own, x) => {
+            if !c.swaps.is_empty() || !own.items().is_empty() {
+                return Ok(None);
+            }
+            let var = Var {
+                num: c.base + x.num,
+            };
+            unbound(store, none, var)
+        }
         _ => Ok(None),
     }
 }
 
-/// What a term on which no swappings wait stands for, if that is seen at once: a constant, or a variable on which
-/// nothing waits and that is bound to nothing.
+/// What a term on which no swappings wait stands for, if that is seen at once, likewise.
 fn plain_leaf(
     alloc: Global,
     store: &Store<'_>,
@@ -194,6 +215,12 @@ fn plain_leaf(
         ≡ canonical_term (plain_meaning store.now base (term_of t.now)))) }
 {
     match t {
+        Term::App(f, argument) => {
+            if is_unit(argument) {
+                return Ok(Some(constant(alloc, *f)?));
+            }
+            Ok(None)
+        }
         Term::Susp(own, x) => {
             if !own.items().is_empty() {
                 return Ok(None);
@@ -201,25 +228,7 @@ fn plain_leaf(
             let var = Var { num: base + x.num };
             unbound(store, none, var)
         }
-        _ => constant_of(alloc, t),
-    }
-}
-
-/// What a closure stands for, if that is seen at once, likewise.
-fn leaf_of(
-    alloc: Global,
-    store: &Store<'_>,
-    none: &Swaps,
-    c: &Closure<'_>,
-) -> Result<Option<Term>, Memory>
-    requires { none.now ≡ [] }
-    ensures { IfOk result (λ o. IfSome o (λ t.
-        term_of t ≡ canonical_term (meaning_in store.now c.now))) }
-{
-    if c.swaps.is_empty() {
-        plain_leaf(alloc, store, none, c.base, c.end, c.term)
-    } else {
-        constant_of(alloc, c.term)
+        _ => Ok(None),
     }
 }
 
