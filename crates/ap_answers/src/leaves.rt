@@ -1,11 +1,11 @@
 //! Terms that have no parts to write.
 
-ghost use Rattle.std.specs.Prelude.{◌≡◌, ◌++◌, true, false, map, None, IfOk};
+ghost use Rattle.std.specs.Prelude.{◌≡◌, ◌++◌, true, false, map, Some, None, IfOk};
 ghost use Rattle.ap_defs.specs.Printing.{term_at, whole};
 ghost use Rattle.ap_defs.specs.Terms.{app, term_of};
 ghost use Rattle.ap_defs.specs.Types.{constructor_of};
 ghost use Rattle.ap_answers.specs.Spelled.{spelling_in};
-ghost use Rattle.ap_answers.specs.Places.{argument_place};
+ghost use Rattle.ap_answers.specs.Places.{argument_place, declared_place};
 
 use crate::beginnings::{begin_application, write_closers, write_suspension};
 use crate::place::Place;
@@ -15,22 +15,29 @@ use ap_defs::memory::Memory;
 use ap_defs::terms::Term;
 use std::alloc::Global;
 
-/// Whether the argument of a constructor is written.
-#[tactic(auto, using(crate::proofs::TextLemmas::nil_place, crate::proofs::TextLemmas::past_place, crate::proofs::TextLemmas::bare_place))]
-fn has_argument(constructors: &[Constructor], f: u32) -> bool
-    ensures { result ≡ false → argument_place (map constructor_of constructors.now) f ≡ None }
+/// Whether a declared constructor has no arguments.
+fn is_bare(constructor: &Constructor) -> bool
+    ensures { result ≡ true → declared_place (Some (constructor_of constructor.now)) ≡ None }
+{
+    constructor.args.items().is_empty()
+}
+
+/// Whether a constructor is written without its argument.
+#[tactic(auto, using(crate::proofs::TextLemmas::nil_place, crate::proofs::TextLemmas::past_place))]
+fn stands_alone(constructors: &[Constructor], f: u32) -> bool
+    ensures { result ≡ true → argument_place (map constructor_of constructors.now) f ≡ None }
 {
     if f < 2 {
-        return f == 1;
+        return f == 0;
     }
     let index = (f - 2) as usize;
     if index >= constructors.len() {
-        return false;
+        return true;
     }
-    !constructors[index].args.items().is_empty()
+    is_bare(&constructors[index])
 }
 
-/// Writes a constructor by itself, unless its argument is written; tells whether it is.
+/// Writes a constructor that is written without its argument, and tells whether it is.
 #[tactic(auto, using(crate::proofs::TextLemmas::constant_written))]
 fn write_constant(
     alloc: Global,
@@ -43,7 +50,7 @@ fn write_constant(
         ++ term_at (spelling_in by.now) (app f (term_of argument.now)) whole) }
     ensures kept { IfOk result (λ b. b ≡ false → out.new.items ≡ out.old.items) }
 {
-    if has_argument(by.constructors, f) {
+    if !stands_alone(by.constructors, f) {
         return Ok(false);
     }
     let mut closers = Vec::new(alloc);

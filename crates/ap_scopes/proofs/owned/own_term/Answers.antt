@@ -18,7 +18,7 @@ resolving-preserved-in-Cell c =
     let after = found_of c.own_part.new.found in
     let is : term_of c.resolving.rest ≡ terms.Cell head tail = sym c.tree_apart.ensures ∙ ap tree_together c.in-Cell.is in
     record {
-      all = tail_goes_in (raw_of c.resolving.above) (raw_of c.in_ok-above_tail-in-Cell.field-0) first (resolved_term d [] (term_of c.resolving.rest) before) (resolved_term d [] tail after) _ c.in_ok-above_tail-in-Cell.ensures
+      all = tail_goes_in (raw_of c.resolving.above) (raw_of c.in_ok-above-in-Cell.above) first (resolved_term d [] (term_of c.resolving.rest) before) (resolved_term d [] tail after) _ c.in_ok-above-in-Cell.ensures
           (ap (λ u. resolved_term d [] u before) is ∙ ap (made (app 1)) (then_is pair (resolved_term d [] head) (resolved_term d [] tail) before after first c.in_ok-first-in-Cell.ensures.value)) c.resolving.invariant.all;
       numbered = c.in_ok-first-in-Cell.ensures.numbered;
     }
@@ -33,7 +33,7 @@ resolving-preserved c =
     let after = found_of c.own_part-in-Pair.new.found in
     let is : term_of c.resolving.rest ≡ terms.Pair left right = sym c.tree_apart.ensures ∙ ap tree_together c.in-Pair.is in
     record {
-      all = right_goes_in (raw_of c.resolving.above) (raw_of c.in_ok-raw_pair-in-Pair.field-0) first (resolved_term d [] (term_of c.resolving.rest) before) (resolved_term d [] right after) _ c.in_ok-raw_pair-in-Pair.ensures
+      all = right_goes_in (raw_of c.resolving.above) (raw_of c.in_ok-above-in-Pair.above) first (resolved_term d [] (term_of c.resolving.rest) before) (resolved_term d [] right after) _ c.in_ok-above-in-Pair.ensures
           (ap (λ u. resolved_term d [] u before) is ∙ then_is pair (resolved_term d [] left) (resolved_term d [] right) before after first c.in_ok-first-in-Pair.ensures.value) c.resolving.invariant.all;
       numbered = c.in_ok-first-in-Pair.ensures.numbered;
     }
