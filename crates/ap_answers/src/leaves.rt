@@ -71,10 +71,15 @@ pub(crate) fn write_leaf(
     ensures kept { IfOk result (λ b. b ≡ false → out.new.items ≡ out.old.items) }
 {
     match term {
-        Term::Susp(swaps, var) => write_suspension(out, by, swaps.items(), *var)?,
-        Term::Name(name) => by.write_name(out, *name)?,
-        Term::App(f, argument) => return write_constant(alloc, out, by, *f, argument),
-        Term::Unit | Term::Pair(_, _) | Term::Abs(_, _, _) => return Ok(false),
+        Term::Susp(swaps, var) => {
+            write_suspension(out, by, swaps.items(), *var)?;
+            Ok(true)
+        }
+        Term::Name(name) => {
+            by.write_name(out, *name)?;
+            Ok(true)
+        }
+        Term::App(f, argument) => write_constant(alloc, out, by, *f, argument),
+        Term::Unit | Term::Pair(_, _) | Term::Abs(_, _, _) => Ok(false),
     }
-    Ok(true)
 }

@@ -107,14 +107,17 @@ fn pass_head<'a>(
         ≡ part_text (spelling_in by.now) out.old.items part.entry) }
     ensures less { IfOk result (λ next. part_work next ≤ part_work part.entry) }
 {
-    if let Place::Cell = part.place {
-        if let Term::Pair(head, tail) = part.term {
-            if write_leaf(alloc, out, by, head)? {
-                part.term = tail;
-                part.place = Place::Rest;
-            }
-        }
+    let Place::Cell = part.place else {
+        return Ok(part);
+    };
+    let Term::Pair(head, tail) = part.term else {
+        return Ok(part);
+    };
+    if !write_leaf(alloc, out, by, head)? {
+        return Ok(part);
     }
+    part.term = tail;
+    part.place = Place::Rest;
     Ok(part)
 }
 
