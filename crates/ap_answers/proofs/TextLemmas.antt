@@ -1,14 +1,16 @@
 -- The text of a term, by the form of the term.
-use Rattle.std.proofs.Common.{◌≡◌, ℕ, zero, suc, ◌-◌, ◌≤◌, ◌<◌, ◌≢◌, get_or, List, [], ◌∷◌, ◌++◌, map, length, refl, sym, ap, ◌∙◌, append_assoc, arith}
+use Rattle.std.proofs.Common.{◌≡◌, ◌==◌, true, true≢false, ℕ, zero, suc, ◌-◌, ◌≤◌, ◌<◌, ◌≢◌, get_or, List, [], ◌∷◌, ◌++◌, map, length, refl, sym, ap, ◌∙◌, append_assoc, arith}
 use Rattle.std.specs.Prelude.{Option, Some, None, slice_get, codes, replicate, reverse}
 use Rattle.std.specs.Option.{option_map}
+use Rattle.std.proofs.lemmas.Bool.Decides.{nat_tests}
 use Rattle.std.proofs.lemmas.Option.{slice_get_past, slice_get-get_or}
-use Rattle.std.proofs.lemmas.List.{append-nil, reverse-append}
+use Rattle.std.proofs.lemmas.List.{append-nil, reverse-append, nil_from_length}
 use Rattle.ap_defs.specs.declared.terms.Name.{Name}
 use Rattle.ap_defs.specs.declared.terms.Swap.{Swap}
 use Rattle.ap_defs.specs.declared.goals.Constructor.{Constructor}
+use Rattle.ap_defs.specs.declared.terms.Ty.{Ty}
 use Rattle.ap_defs.specs.Permutations.{left_name, right_name}
-use Rattle.ap_defs.specs.Types.{NominalConstructor, constructor_of}
+use Rattle.ap_defs.specs.Types.{NominalConstructor, constructor_of, type_of}
 use Rattle.ap_defs.specs.Terms.{NominalTerm, pair, app, abs}
 use Rattle.ap_defs.specs.Unification.{size}
 use Rattle.ap_defs.specs.Printing.{Spelling, TermContext, whole, part, rest, cell, arguments, barred, constructor_in, constructor_text, argument_count, application_text, swaps_text, term_at}
@@ -159,3 +161,28 @@ size_argument w f t n e h = let h' : size (app f t) ≤ n = rw e at h in omega a
 
 pub size_body : (w : NominalTerm) (a : Name) (t : NominalTerm) (n : ℕ) → w ≡ abs a t → size w ≤ n → size t ≤ n
 size_body w a t n e h = let h' : size (abs a t) ≤ n = rw e at h in omega arith
+
+-- a head that is written, and its tail behind it, are the parts of a cell
+pub head_passed : (by : Spelling) (w t u : NominalTerm) (o o1 k : List ℕ) → w ≡ pair t u → o1 ≡ o ++ term_at by t whole → closed_text by o1 u rest k ≡ closed_text by o w cell k
+head_passed by w t u o o1 k e h = rw (h, e) (simp append_assoc)
+
+-- a constructor whose argument is not written
+pub constant_written : (by : Spelling) (f : ℕ) (t : NominalTerm) (o o1 o2 k1 : List ℕ) → o1 ≡ o ++ opening by.constructors f whole → k1 ≡ [] ++ closing by.constructors f whole
+    → argument_place by.constructors f ≡ None → o2 ≡ o1 ++ reverse k1 → o2 ≡ o ++ term_at by (app f t) whole
+constant_written by f t o o1 o2 k1 a b d e =
+    e ∙ app_ends by (app f t) f t whole o o1 o2 [] k1 refl a b (sym d) ∙ ap (λ bs. o ++ bs) (append-nil (term_at by (app f t) whole))
+
+-- where the argument of a constructor stands that has none, or isn't declared
+pub nil_place : (cs : List NominalConstructor) (f : ℕ) → f < 2 → (f == 0) ≡ true → argument_place cs f ≡ None
+nil_place cs zero l e = refl
+nil_place cs (suc zero) l e = absurd (true≢false (sym e))
+nil_place cs (suc (suc f)) l e = absurd (omega (arith, l))
+
+pub past_place : (cs : List Constructor) (f : ℕ) → f ≢ 0 → f ≢ 1 → length cs ≤ f - 2 → argument_place (map constructor_of cs) f ≡ None
+past_place cs f h k past = (declares_none cs f whole h k past).at
+
+nothing : (n : ℕ) → (n == 0) ≡ true → n ≡ 0
+nothing n e = grind (arith, nat_tests)
+
+pub bare_place : (c : Constructor) (ts : List Ty) → ts ≡ c.args → (length ts == 0) ≡ true → declared_place (Some (constructor_of c)) ≡ None
+bare_place c ts e h = ap (λ (us : List Ty). arguments_place (length (map type_of us))) (sym e ∙ nil_from_length ts (nothing (length ts) h))

@@ -1,12 +1,12 @@
 //! The bindings that are shown.
 
-ghost use Rattle.std.specs.Prelude.{◌≡◌, [], ◌∷◌, ◌++◌, map, IfOk, OnOk};
+ghost use Rattle.std.specs.Prelude.{◌≡◌, ℕ, List, [], ◌∷◌, ◌++◌, map, IfOk, OnOk};
 ghost use Rattle.ap_defs.specs.Terms.{term_of};
-ghost use Rattle.ap_defs.specs.Types.{locals_of};
+ghost use Rattle.ap_defs.specs.Types.{local_of, locals_of};
 ghost use Rattle.ap_defs.specs.Lines.{var_texts, shown_binds};
-ghost use Rattle.ap_answers.specs.Bindings.{binds_of};
+ghost use Rattle.ap_answers.specs.Bindings.{binds_of, with_text};
 
-use crate::locals::variable_texts;
+use crate::locals::is_variable;
 use ap_defs::goals::Local;
 use ap_defs::lists::Text;
 use ap_defs::memory::Memory;
@@ -31,6 +31,31 @@ fn keep<'a>(binds: &mut Vec<Binding<'a>>, text: &'a Text, term: &'a Term) -> Res
     Ok(())
 }
 
+/// Keeps the binding of an identifier that is a free variable, to the first of the terms that are left, and gives those
+/// behind it; any other identifier takes none.
+#[tactic(auto, using(crate::proofs::BindingLemmas::kept_shown, crate::proofs::BindingLemmas::none_shown, crate::proofs::BindingLemmas::left_shown))]
+fn keep_local<'a>(
+    binds: &mut Vec<Binding<'a>>,
+    local: &'a Local,
+    terms: &'a [Term],
+) -> Result<&'a [Term], Memory>
+    ensures { IfOk result (λ rest. (ws : List (List ℕ)) →
+        binds_of binds.new.items ++ shown_binds ws (map term_of rest.now)
+        ≡ binds_of binds.old.items ++ shown_binds (with_text (local_of local.now) ws)
+        (map term_of terms.now)) }
+{
+    if !is_variable(local) {
+        return Ok(terms);
+    }
+    match terms.split_first() {
+        None => Ok(terms),
+        Some((term, rest)) => {
+            keep(binds, local.text.text(), term)?;
+            Ok(rest)
+        }
+    }
+}
+
 /// The bindings of variables other than `_`.
 pub fn shown_bindings<'a>(
     alloc: Global,
@@ -40,12 +65,10 @@ pub fn shown_bindings<'a>(
     ensures { IfOk result (λ binds. binds_of binds.items
         ≡ shown_binds (var_texts (locals_of locals.now)) (map term_of terms.now)) }
 {
-    let texts = variable_texts(alloc, locals)?;
     let mut binds = Vec::new(alloc);
-    for (i, text) in texts.iter().enumerate() {
-        if i < terms.len() {
-            keep(&mut binds, text, &terms[i])?;
-        }
+    let mut rest = terms;
+    for local in locals {
+        rest = keep_local(&mut binds, local, rest)?;
     }
     Ok(binds)
 }

@@ -2,8 +2,10 @@
 #![tactic(auto)]
 
 pub mod answers;
+mod beginnings;
 pub mod bindings;
 mod conditions;
+mod leaves;
 pub mod locals;
 pub mod occurrences;
 pub mod place;

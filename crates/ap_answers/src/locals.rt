@@ -26,7 +26,7 @@ fn sort_of(local: &Local) -> Option<u32>
 }
 
 /// Whether it is a free variable.
-fn is_variable(local: &Local) -> bool
+pub(crate) fn is_variable(local: &Local) -> bool
     ensures { result ≡ is_free_var (local_of local.now) }
 {
     match &local.kind {

@@ -1,5 +1,4 @@
 pub mod Sorts
-pub mod Turned
 pub mod ItemKinds
 pub mod Reading
 pub mod ReadTypes

@@ -9,13 +9,14 @@ ghost use Rattle.ap_defs.specs.RawTerms.{raw_of};
 ghost use Rattle.ap_defs.specs.Types.{kind_of};
 ghost use Rattle.ap_defs.specs.Answers.{kind_at};
 ghost use Rattle.ap_defs.specs.Goals.{goal_over};
-ghost use Rattle.ap_kinds.specs.Turned.{turned_back, goal_turned_back, part_count, goal_count};
+ghost use Rattle.ap_spines.specs.Turned.{turned_back, goal_turned_back, part_count, goal_count};
 ghost use Rattle.ap_kinds.specs.Sorts.{sort_in, KeepSorts, name_with_sort, id_with_sort, with_sorts, terms_with_sorts, goal_with_sorts};
 
 use ap_defs::goals::{Goal, Kind};
 use ap_defs::lists::List;
 use ap_defs::memory::Memory;
 use ap_defs::terms::{Id, Name, Raw, Under};
+use ap_spines::go_up;
 use std::alloc::Global;
 use std::mem;
 
@@ -110,28 +111,6 @@ fn go_down(kinds: &[Kind], above: &mut Raw, t: &mut Raw) -> bool
                 mem::swap(body, above);
             }
         }
-    }
-    mem::swap(t, above);
-    true
-}
-
-/// Goes back up from the last part of a term, and answers whether there was something above it.
-fn go_up(above: &mut Raw, t: &mut Raw) -> bool
-    ensures up { result ≡ true → turned_back (raw_of above.new) (raw_of t.new)
-        ≡ turned_back (raw_of above.old) (raw_of t.old) }
-    ensures smaller { result ≡ true →
-        part_count (raw_of above.new) < part_count (raw_of above.old) }
-    ensures top { result ≡ false →
-        raw_of t.new ≡ turned_back (raw_of above.old) (raw_of t.old) }
-{
-    match &mut *above {
-        Raw::Unit | Raw::Name(_) | Raw::Var(_) => return false,
-        Raw::Pair(_, last) => mem::swap(&mut **last, t),
-        Raw::App(_, last) => mem::swap(&mut **last, t),
-        Raw::Under(under) => match &mut **under {
-            Under::Abs(_, last) => mem::swap(last, t),
-            Under::Swapped(_, last) => mem::swap(last, t),
-        },
     }
     mem::swap(t, above);
     true

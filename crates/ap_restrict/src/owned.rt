@@ -1,10 +1,12 @@
 //! Swappings, carried out in terms that are let go meanwhile, so that their memory is used again at once.
 
-ghost use Rattle.std.specs.Prelude.{◌≡◌, [], map, IfOk, MatchOption};
+ghost use Rattle.std.specs.Prelude.{◌≡◌, ◌<◌, [], true, false, map, IfOk, MatchOption};
 ghost use Rattle.ap_defs.specs.RawTerms.{raw_of, app, pair};
+ghost use Rattle.ap_defs.specs.Terms as nominal;
 ghost use Rattle.ap_defs.specs.Terms.{term_of};
+ghost use Rattle.ap_defs.specs.Unification.{size};
 ghost use Rattle.ap_program.specs.CarryingOut.{carried_out};
-ghost use Rattle.ap_restrict.specs.Owned.{in_around, taken_term, within_around};
+ghost use Rattle.ap_restrict.specs.Owned.{brought_back, taken_term};
 
 use crate::carrying::carry_term;
 use ap_defs::lists::{List, Swaps};
@@ -12,15 +14,6 @@ use ap_defs::memory::Memory;
 use ap_defs::terms::{Raw, Term};
 use std::alloc::Global;
 use std::mem;
-
-/// What stands round the part that comes next: it is the tail of a list cell, right of a term in a pair, or the
-/// argument of a constructor. There are as many as a list is long, so one is small.
-#[derive(Drop)]
-enum Around {
-    Tail(Box<Term>),
-    Right(Box<Term>),
-    Argument(u32),
-}
 
 /// A term, taken apart: a list cell, a pair, an application, or one that stays whole.
 #[derive(Drop)]
@@ -96,59 +89,81 @@ fn carried_part(alloc: Global, none: &Swaps, t: Raw) -> Result<Box<Term>, Memory
     Ok(Box::new(alloc, made)?)
 }
 
-/// What stands round a part, made with it.
-fn made_around(alloc: Global, around: Around, t: Term) -> Result<Term, Memory>
-    ensures { IfOk result (λ u. term_of u ≡ in_around around (term_of t)) }
+/// What is above the right part of a pair, by what is above the pair and by its left part, which is let go.
+fn above_right(alloc: Global, none: &Swaps, above: Term, left: Raw) -> Result<Term, Memory>
+    requires { none.now ≡ [] }
+    ensures { IfOk result (λ a. term_of a
+        ≡ nominal.pair (carried_out (raw_of left)) (term_of above)) }
 {
-    match around {
-        Around::Tail(head) => {
-            let parts = Term::Pair(head, Box::new(alloc, t)?);
-            Ok(Term::App(1, Box::new(alloc, parts)?))
-        }
-        Around::Right(left) => Ok(Term::Pair(left, Box::new(alloc, t)?)),
-        Around::Argument(f) => Ok(Term::App(f, Box::new(alloc, t)?)),
-    }
+    let left = carried_part(alloc, none, left)?;
+    Ok(Term::Pair(left, Box::new(alloc, above)?))
 }
 
-/// A part within what stands round it, of which the first is outermost.
-#[tactic(auto, using(crate::proofs::OwnedLemmas::around_last))]
-fn made_within(alloc: Global, mut all: Vec<Around>, t: Term) -> Result<Term, Memory>
-    ensures { IfOk result (λ u. term_of u ≡ within_around all.items (term_of t)) }
+/// What is above the tail of a list cell, by what is above the cell and by its head, which is let go.
+fn above_tail(alloc: Global, none: &Swaps, above: Term, head: Raw) -> Result<Term, Memory>
+    requires { none.now ≡ [] }
+    ensures { IfOk result (λ a. term_of a
+        ≡ nominal.pair (carried_out (raw_of head)) (nominal.app 1 (term_of above))) }
 {
-    let mut made = t;
-    while let Some(around) = all.pop() {
-        made = made_around(alloc, around, made)?;
+    let cell = Term::App(1, Box::new(alloc, above)?);
+    above_right(alloc, none, cell, head)
+}
+
+/// Goes back up from the last part of a term, and answers whether there was something above it.
+fn go_up(above: &mut Term, t: &mut Term) -> bool
+    ensures up { result ≡ true → brought_back (term_of above.new) (term_of t.new)
+        ≡ brought_back (term_of above.old) (term_of t.old) }
+    ensures smaller { result ≡ true → size (term_of above.new) < size (term_of above.old) }
+    ensures top { result ≡ false →
+        term_of t.new ≡ brought_back (term_of above.old) (term_of t.old) }
+{
+    match &mut *above {
+        Term::Unit | Term::Name(_) | Term::Abs(_, _, _) | Term::Susp(_, _) => return false,
+        Term::Pair(_, last) => mem::swap(&mut **last, t),
+        Term::App(_, last) => mem::swap(&mut **last, t),
     }
-    Ok(made)
+    mem::swap(t, above);
+    true
+}
+
+/// The term with this last part, by what is above it. It takes no memory.
+fn bring_back(top: Term, last: Term) -> Term
+    ensures { term_of result ≡ brought_back (term_of top) (term_of last) }
+{
+    let mut above = top;
+    let mut made = last;
+    'up: while go_up(&mut above, &mut made) {}
+    made
 }
 
 /// A term that is let go, with its swappings carried out, under none.
 ///
-/// It goes on along tails, right parts of pairs and arguments. What stands round these is made on the way back.
-#[tactic(auto, using(crate::proofs::OwnedLemmas::around_last))]
+/// It goes on along tails, right parts of pairs and arguments. This way is turned round as it is gone, each part on it
+/// with what is above it in place of what is below, and in the end turned back: so what is made takes the memory of
+/// what was let go just before, and none beside it.
 pub(crate) fn carry_owned(alloc: Global, none: &Swaps, t: Raw) -> Result<Term, Memory>
     requires { none.now ≡ [] }
     ensures { IfOk result (λ u. term_of u ≡ carried_out (raw_of t)) }
 {
-    let mut all = Vec::new(alloc);
+    let mut above = Term::Unit;
     let mut rest = t;
     loop {
         match taken_apart(rest) {
             Taken::Cell(head, tail) => {
-                all.push(Around::Tail(carried_part(alloc, none, head)?))?;
+                above = above_tail(alloc, none, above, head)?;
                 rest = tail;
             }
             Taken::Pair(left, right) => {
-                all.push(Around::Right(carried_part(alloc, none, left)?))?;
+                above = above_right(alloc, none, above, left)?;
                 rest = right;
             }
             Taken::App(f, argument) => {
-                all.push(Around::Argument(f))?;
+                above = Term::App(f, Box::new(alloc, above)?);
                 rest = argument;
             }
             Taken::Whole(last) => {
                 let last = carry_term(alloc, none, &last)?;
-                return made_within(alloc, all, last);
+                return Ok(bring_back(above, last));
             }
         }
     }

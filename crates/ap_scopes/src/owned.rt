@@ -18,7 +18,7 @@ use ap_defs::goals::Goal;
 use ap_defs::lists::List;
 use ap_defs::memory::Memory;
 use ap_defs::terms::Raw;
-use ap_spines::{RawLayer, both_layer, close_goal, close_raw, either_layer};
+use ap_spines::{above_tail, both_layer, close_goal, either_layer, raw_pair, turn_back};
 use ap_trees::{GoalTree, Tree};
 use std::alloc::Global;
 use std::mem;
@@ -124,7 +124,8 @@ fn own_part<'a>(
 
 /// A term with numbers for its words. `Err` is want of memory.
 ///
-/// Its tree is let go part by part, along the tails of lists and the right parts of pairs.
+/// Its tree is let go part by part, along the tails of lists and the right parts of pairs, and the term takes the memory of
+/// these parts at once: so its way down is turned round, and in the end back.
 #[tactic(auto, using(crate::proofs::Orders::made_is))]
 fn own_term<'a>(
     alloc: Global,
@@ -140,21 +141,23 @@ fn own_term<'a>(
         (term_of tree.entry) (found_of found.old)) }
     ensures numbered { OnOk result (IsNumbered found.new) }
 {
-    let mut layers = Vec::new(alloc);
+    let mut above = Raw::Unit;
     let mut rest = tree;
     'resolving: loop {
         match tree_apart(rest) {
             TakenTree::Cell(head, tail) => {
-                layers.push(RawLayer::Cell(own_part(alloc, declared, head, found)?))?;
+                let first = own_part(alloc, declared, head, found)?;
+                above = above_tail(alloc, above, first)?;
                 rest = tail;
             }
             TakenTree::Pair(left, right) => {
-                layers.push(RawLayer::Left(own_part(alloc, declared, left, found)?))?;
+                let first = own_part(alloc, declared, left, found)?;
+                above = raw_pair(alloc, first, above)?;
                 rest = right;
             }
             TakenTree::Whole(last) => {
                 let last = own_part(alloc, declared, last, found)?;
-                return close_raw(alloc, layers, last);
+                return Ok(turn_back(above, last));
             }
         }
     }

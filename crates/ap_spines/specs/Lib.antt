@@ -1,1 +1,2 @@
 pub mod Spines
+pub mod Turned

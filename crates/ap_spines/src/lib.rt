@@ -4,6 +4,8 @@
 //! that is still to be made as a list of layers, of which the first is outermost, and then closes them.
 #![tactic(auto)]
 
+mod turning;
+
 ghost use Rattle.std.specs.Prelude.{◌≡◌, IfOk};
 ghost use Rattle.ap_defs.specs.RawTerms.{RawTerm, raw_of, pair, abs, swapped};
 ghost use Rattle.ap_defs.specs.Goals.{GoalOver, both, either, goal_over};
@@ -13,6 +15,7 @@ use ap_defs::goals::Goal;
 use ap_defs::memory::Memory;
 use ap_defs::terms::{Id, Name, Raw, SwapPlaces, Under, Var};
 use std::alloc::Global;
+pub use turning::{above_tail, go_up, turn_back};
 
 /// What stands round a part of a term: the part is right of a term in a pair, the tail of a list cell, the
 /// argument of a constructor, the body of an abstraction, or what is swapped.

@@ -1,16 +1,15 @@
-use Rattle.std.proofs.Common.{arith}
+use Rattle.std.proofs.Common.{◌+◌, ◌++◌, List, map, drop, sym, ap, ◌∙◌, arith}
+use Rattle.ap_defs.specs.Lines.{shown_binds, var_texts}
+use Rattle.ap_defs.specs.Terms.{term_of}
+use Rattle.ap_defs.specs.Types.{locals_of}
 use Rattle.ap_answers.specs.Bindings.{binds_of}
-use Rattle.ap_answers.proofs.BindingLemmas.{shown_next, none_next}
+use Rattle.ap_answers.proofs.BindingLemmas.{texts_front}
 use Rattle.ap_answers.proofs.bindings.shown_bindings.Goals as goal
-use Rattle.ap_answers.proofs.bindings.shown_bindings.Goals.{then-i-terms+in_ok-keep, else-i-terms}
 
-pub loop-i-preserved : goal.loop-i-preserved
-loop-i-preserved c = elim c.if-i-terms.branch [
-  | then-i-terms+in_ok-keep w ↦
-      rw w.binds-is
-      (shown_next c.deref-text-items.result.now c.args.terms.now c.text-item.result w.index-terms-i.result c.loop-i.i (binds_of c.loop-i.binds.items) (binds_of w.keep.new.binds.items) _
-      (omega arith) w.if-i-terms.true c.text-item.is w.index-terms-i.is c.loop-i.invariant w.in_ok-keep.ensures)
-  | else-i-terms w ↦
-      rw w.binds-is
-      (none_next c.deref-text-items.result.now c.args.terms.now c.loop-i.i (binds_of c.loop-i.binds.items) _ w.if-i-terms.false c.loop-i.invariant)
-]
+pub loop-local-preserved : goal.loop-local-preserved
+loop-local-preserved c =
+    let i = c.loop-local.local-index in
+    let ls = c.args.locals.now in
+    c.in_ok-rest.ensures (var_texts (locals_of (drop (i + 1) ls)))
+    ∙ ap (λ ws. binds_of c.loop-local.binds.items ++ shown_binds ws (map term_of c.loop-local.rest.now)) (sym (texts_front ls c.local-item.result i (omega arith) c.local-item.is))
+    ∙ c.loop-local.invariant

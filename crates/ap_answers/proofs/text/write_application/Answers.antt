@@ -20,5 +20,6 @@ returns-in-Some-clause-written c =
     let by = spelling_in c.args.by.now in
     let t = term_of c.args.argument.term.now in
     let k = c.args.argument.closers.items in
-    app_goes_on by (app c.args.f t) c.args.f t (written_place c.args.argument.place) (written_place c.in-Some.place) c.args.out.now.items c.begin_application.new.out.items k c.begin_application.new.closers.items
+    c.in_ok-pass_head.ensures.written
+    ∙ app_goes_on by (app c.args.f t) c.args.f t (written_place c.args.argument.place) (written_place c.in-Some.place) c.args.out.now.items c.begin_application.new.out.items k c.begin_application.new.closers.items
     refl c.in_ok-place.ensures.written c.in_ok-place.ensures.kept (ap (option_map written_place) (sym c.in-Some.is) ∙ c.in_ok-place.ensures.place)

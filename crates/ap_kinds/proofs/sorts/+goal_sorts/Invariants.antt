@@ -4,7 +4,7 @@ use Rattle.ap_defs.specs.RawTerms.{raw_of}
 use Rattle.ap_defs.specs.Goals.{goal_over}
 use Rattle.ap_defs.specs.Types.{kind_of}
 use Rattle.ap_kinds.specs.Sorts.{goal_with_sorts}
-use Rattle.ap_kinds.specs.Turned.{goal_turned_back, goal_count}
+use Rattle.ap_spines.specs.Turned.{goal_turned_back, goal_count}
 use Rattle.ap_kinds.proofs.sorts.+goal_sorts.Given as goal
 
 abbrev pub decreases-go_down_goal : goal.decreases-go_down_goal

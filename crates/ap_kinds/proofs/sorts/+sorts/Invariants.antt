@@ -3,7 +3,7 @@ use Rattle.std.proofs.Common.{◌≡◌, ◌≤◌, ◌+◌, ◌*◌, map}
 use Rattle.ap_defs.specs.RawTerms.{raw_of}
 use Rattle.ap_defs.specs.Types.{kind_of}
 use Rattle.ap_kinds.specs.Sorts.{with_sorts}
-use Rattle.ap_kinds.specs.Turned.{turned_back, part_count}
+use Rattle.ap_spines.specs.Turned.{turned_back, part_count}
 use Rattle.ap_kinds.proofs.sorts.+sorts.Given as goal
 
 abbrev pub decreases-go_down : goal.decreases-go_down

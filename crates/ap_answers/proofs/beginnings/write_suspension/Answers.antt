@@ -1,7 +1,7 @@
 use Rattle.std.proofs.Common.{arith}
 use Rattle.ap_answers.specs.Spelled.{spelling_in}
 use Rattle.ap_answers.proofs.TextLemmas.{swappings_written}
-use Rattle.ap_answers.proofs.text.write_suspension.Goals as goal
+use Rattle.ap_answers.proofs.beginnings.write_suspension.Goals as goal
 
 pub returns : goal.returns
 returns c =

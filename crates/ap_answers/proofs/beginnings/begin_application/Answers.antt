@@ -1,7 +1,7 @@
 use Rattle.std.proofs.Common.{arith, rules}
 use Rattle.ap_answers.specs.Places.{written_place}
 use Rattle.ap_answers.proofs.TextLemmas.{declares_none, declares_some}
-use Rattle.ap_answers.proofs.text.begin_application.Goals as goal
+use Rattle.ap_answers.proofs.beginnings.begin_application.Goals as goal
 
 pub returns-then-index-constructors-clause-written : goal.returns-then-index-constructors-clause-written
 returns-then-index-constructors-clause-written c =
