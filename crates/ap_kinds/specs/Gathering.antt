@@ -1,5 +1,5 @@
 -- The type equations of an item, gathered in one walk with the type that is wanted at each place.
-use Rattle.std.specs.Prelude.{ℕ, zero, suc, ◌+◌, Bool, true, false, ◌&&◌, ◌||◌, List, [], ◌∷◌, map, if◌then◌else◌, Option, Some, None}
+use Rattle.std.specs.Prelude.{◌≡◌, ℕ, zero, suc, ◌+◌, Bool, true, false, ◌&&◌, ◌||◌, List, [], ◌∷◌, map, if◌then◌else◌, Option, Some, None}
 use Rattle.ap_defs.specs.declared.terms.Id.{Id}
 use Rattle.ap_defs.specs.declared.terms.Id.TheVariants as ids
 use Rattle.ap_defs.specs.RawTerms as raw
@@ -175,6 +175,11 @@ abbrev pub inside_abstraction : ℕ → Wanting → EquationSystem → Inside
 inside_abstraction n (whole (abs l b)) s = record { want = whole b; system = equate l (hole n) s }
 inside_abstraction n (typed (types.abs k a)) s = record { want = typed a; system = equate (names k) (hole n) s }
 inside_abstraction n w s = new_body n w s
+
+-- a list cell of the constructor where the one is wanted: the other is wanted of its element, and the one again of its tail
+abbrev pub IsCellWanted : ℕ → Wanting → Wanting → Type 0
+IsCellWanted f w v =
+    (cs : List NominalConstructor) (s : EquationSystem) → sides (inside_application cs f w s).want (inside_application cs f w s).system ≡ record { left = v; right = w; system = s }
 
 abbrev pub gather_term : List NominalConstructor → List IdentKind → RawTerm → Wanting → EquationSystem → EquationSystem
 gather_term cs idents raw.unit w s = meet_unit w s
