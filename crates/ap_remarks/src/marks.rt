@@ -154,6 +154,23 @@ fn line_end(bytes: &[u8], start: usize) -> usize {
     end
 }
 
+/// The place of the first byte from one on that is no comma, bar or white space, nor of a word that doesn't begin with a
+/// capital letter. Before it, in a list, no token stands that is looked at.
+fn unseen_end(bytes: &[u8], start: usize) -> usize {
+    let mut end = start;
+    let mut in_word = false;
+    for byte in bytes.get(start..).unwrap_or(&[]) {
+        match *byte {
+            b',' | b'|' | b' ' | b'\t' | b'\r' | b'\n' => in_word = false,
+            b'a'..=b'z' | b'0'..=b'9' | b'_' => in_word = true,
+            b'A'..=b'Z' if in_word => {}
+            _ => return end,
+        }
+        end = end.saturating_add(1);
+    }
+    end
+}
+
 /// Whether a token is looked at that stands in a list behind its first one: a bracket, a binder, or a variable that may
 /// stand once.
 fn counts_in_list(kind: Kind) -> bool {
@@ -237,6 +254,12 @@ impl<'t> Scanner<'t> {
 
     /// Takes what begins at a place, and gives the place behind it, or none where it is the `.` of the item.
     pub(crate) fn take(&mut self, place: usize) -> Result<Option<usize>, Memory> {
+        if self.is_behind_in_list() {
+            let end = unseen_end(self.bytes, place);
+            if end > place {
+                return Ok(Some(end));
+            }
+        }
         let next = place.saturating_add(1);
         let byte = self.bytes.get(place).copied().unwrap_or(b' ');
         if is_plain(byte) {
