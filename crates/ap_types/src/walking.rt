@@ -9,12 +9,12 @@ use crate::nodes::Node;
 use ap_defs::memory::Memory;
 use std::alloc::Global;
 
-/// Whether a walk has not come to a place, has entered it, or has left it as one of a number.
+/// Whether a walk has not come to a place, has entered it, or has left it.
 #[derive(Clone, Copy)]
 pub(crate) enum Mark {
     New,
     Entered,
-    Left(usize),
+    Left,
 }
 
 /// The marks of places, those that were left in the order in which they were, and the path to the place where
@@ -30,7 +30,7 @@ struct Walk {
 fn is_left(marks: &[Mark], x: usize) -> bool
     ensures { result ≡ is_left (walk_mark_at marks.now x) }
 {
-    x < marks.len() && matches!(marks[x], Mark::Left(_))
+    x < marks.len() && matches!(marks[x], Mark::Left)
 }
 
 /// Whether a place is new.
@@ -86,12 +86,11 @@ fn enter(walk: &mut Walk, x: usize) -> Result<(), Memory>
 fn leave(walk: &mut Walk, x: usize) -> Result<(), Memory>
     requires { x < length walk.old.marks.items }
     ensures marks { OnOk result (walk.new.marks.items
-        ≡ slice_set walk.old.marks.items x (Mark.Left (length walk.old.order.items))) }
+        ≡ slice_set walk.old.marks.items x Mark.Left) }
     ensures order { OnOk result (walk.new.order.items ≡ walk.old.order.items ++ x ∷ []) }
     ensures path { OnOk result (walk.new.path.items ≡ walk.old.path.items) }
 {
-    let count = walk.order.len();
-    walk.marks[x] = Mark::Left(count);
+    walk.marks[x] = Mark::Left;
     walk.order.push(x)?;
     Ok(())
 }
