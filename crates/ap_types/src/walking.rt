@@ -22,7 +22,7 @@ pub(crate) enum Mark {
 #[derive(Drop)]
 struct Walk {
     marks: Vec<Mark>,
-    order: Vec<usize>,
+    order: Vec<u32>,
     path: Vec<usize>,
 }
 
@@ -82,7 +82,7 @@ fn enter(walk: &mut Walk, x: usize) -> Result<(), Memory>
     Ok(())
 }
 
-/// Leaves a place.
+/// Leaves a place. A place whose number is above the greatest `u32` counts as want of memory.
 fn leave(walk: &mut Walk, x: usize) -> Result<(), Memory>
     requires { x < length walk.old.marks.items }
     ensures marks { OnOk result (walk.new.marks.items
@@ -90,8 +90,11 @@ fn leave(walk: &mut Walk, x: usize) -> Result<(), Memory>
     ensures order { OnOk result (walk.new.order.items ≡ walk.old.order.items ++ x ∷ []) }
     ensures path { OnOk result (walk.new.path.items ≡ walk.old.path.items) }
 {
+    let Ok(place) = u32::try_from(x) else {
+        return Err(Memory);
+    };
     walk.marks[x] = Mark::Left;
-    walk.order.push(x)?;
+    walk.order.push(place)?;
     Ok(())
 }
 
@@ -171,7 +174,7 @@ fn explore(nodes: &[Node], walk: &mut Walk, start: usize) -> Result<(), TypesErr
 }
 
 /// All places, each behind its parts. Refuses a table in which a place stands within itself.
-pub(crate) fn in_order(alloc: Global, nodes: &[Node]) -> Result<Vec<usize>, TypesError>
+pub(crate) fn in_order(alloc: Global, nodes: &[Node]) -> Result<Vec<u32>, TypesError>
     requires { AreFormed (shapes_of_nodes nodes.now) }
     ensures ok { IfOk result (λ v. IsSettledTable (shapes_of_nodes nodes.now)) }
     ensures order { IfOk result (λ v. AreInOrder (shapes_of_nodes nodes.now) v.items) }
