@@ -1,5 +1,5 @@
 -- Shapes whose parts are not taken out.
-use Rattle.std.proofs.Common.{◌≡◌, ◌<◌, ◌+◌, ◌∙◌, ℕ, List, refl, sym, ap, subst, arith}
+use Rattle.std.proofs.Common.{◌≡◌, ◌<◌, ◌∙◌, ℕ, List, refl, sym, ap, subst, arith}
 use Rattle.ap_defs.specs.Types.{NominalType, NominalConstructor, TypeShape, hole, unit, names, base, pair, list, abs, IsNoPair, IsNoAbs}
 use Rattle.ap_defs.specs.Types as types
 use Rattle.ap_defs.specs.RawTerms.{RawTerm}
@@ -7,7 +7,7 @@ use Rattle.ap_defs.specs.RawTerms as raw
 use Rattle.ap_spines.proofs.SpineLemmas.{raw_size}
 use Rattle.ap_kinds.specs.declared.kinds.IdentKind.{IdentKind}
 use Rattle.ap_kinds.specs.Systems.{EquationSystem}
-use Rattle.ap_kinds.specs.Gathering.{Wanting, Sides, whole, typed, sides, new_sides, inside_application, inside_abstraction, new_body, gather_term, IsCellWanted}
+use Rattle.ap_kinds.specs.Gathering.{Wanting, Sides, whole, typed, sides, new_sides, inside_abstraction, new_body, gather_term, IsCellWanted}
 
 pub no_pair_sides : (t : TypeShape) (s : EquationSystem) → IsNoPair t → sides (whole t) s ≡ new_sides t s
 no_pair_sides (hole x) s h = refl

@@ -131,7 +131,7 @@ fn read_places(
     alloc: Global,
     by: Declared<'_>,
     nodes: &[Node],
-    order: &[usize],
+    order: &[u32],
 ) -> Result<Vec<TypeRead>, Memory>
     requires settled { IsSettledTable (shapes_of_nodes nodes.now) }
     requires order { AreInOrder (shapes_of_nodes nodes.now) order.now }
@@ -140,7 +140,7 @@ fn read_places(
     let mut reads = unread(alloc, nodes.len())?;
     let mut last = None;
     for i in 0..order.len() {
-        let x = order[i];
+        let x = order[i] as usize;
         let read = read_place(alloc, by, &mut last, nodes, reads.as_slice(), x)?;
         reads[x] = read;
     }
