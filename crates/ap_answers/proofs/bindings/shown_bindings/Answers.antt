@@ -1,4 +1,4 @@
-use Rattle.std.proofs.Common.{◌+◌, ◌++◌, List, map, drop, sym, ap, ◌∙◌, arith}
+use Rattle.std.proofs.Common.{◌+◌, ◌++◌, map, drop, sym, ap, ◌∙◌, arith}
 use Rattle.ap_defs.specs.Lines.{shown_binds, var_texts}
 use Rattle.ap_defs.specs.Terms.{term_of}
 use Rattle.ap_defs.specs.Types.{locals_of}
