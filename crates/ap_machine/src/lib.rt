@@ -12,6 +12,7 @@ pub mod closing;
 pub mod frames;
 pub mod free_vars;
 pub mod goal_stack;
+pub mod looks;
 pub mod machine;
 mod moving;
 pub mod renaming;
