@@ -18,7 +18,7 @@ use Rattle.ap_machine.proofs.BroughtLemmas.{unbound_more}
 use Rattle.ap_machine.proofs.TrackLemmas.{longer_length, longer_same, take_longer}
 use Rattle.ap_machine.specs.Brought.{vars_of_brought, vars_of_one}
 use Rattle.ap_machine.specs.GoalStacks.{IsLonger}
-use Rattle.ap_machine.specs.Looks.{IsLook, open_in}
+use Rattle.ap_machine.specs.Looks.{HasLooked, unbound_at}
 use Rattle.ap_machine.specs.Unbound.{unbound_vars}
 use Rattle.ap_machine.specs.Views.{state_in}
 use Rattle.ap_machine.specs.declared.brought.Brought.{Brought}
@@ -64,7 +64,7 @@ vars_append [] cs = refl
 vars_append (b ∷ bs) cs = ap (λ xs. vars_of_one b ++ xs) (vars_append bs cs) ∙ sym (append_assoc (vars_of_one b) (vars_of_brought bs) (vars_of_brought cs))
 
 -- what was open, and the ranges that were not looked at, have all that is unbound
-pub look_now : (s : Store) (bs : List Brought) (l : Look) → IsLook (versions s) bs l
+pub look_now : (s : Store) (bs : List Brought) (l : Look) → HasLooked (versions s) bs l
     → unbound_vars (state_in s) l.unbound.items ++ unbound_vars (state_in s) (vars_of_brought (drop l.looked bs)) ≡ unbound_vars (state_in s) (vars_of_brought bs)
 look_now s bs l h =
     let v : Triple = get_or (versions s) l.place empty in
@@ -81,54 +81,54 @@ look_now s bs l h =
 
 -- The versions and the ranges go on, or the search goes back.
 module _ (vs ws : List Triple) (bs cs : List Brought) (l : Look) (g : IsPrefixOf vs ws) (m : IsLonger bs cs) where
-  open_same : l.place < length vs → l.looked ≤ length bs → open_in (get_or ws l.place empty) (take l.looked cs) ≡ open_in (get_or vs l.place empty) (take l.looked bs)
+  open_same : l.place < length vs → l.looked ≤ length bs → unbound_at (get_or ws l.place empty) (take l.looked cs) ≡ unbound_at (get_or vs l.place empty) (take l.looked bs)
   open_same p k =
-      ap (λ us. open_in (get_or us l.place empty) (take l.looked cs)) g.1
-      ∙ ap (λ (v : Triple). open_in v (take l.looked cs)) (get_or_append_left vs g.0 empty l.place p)
-      ∙ ap (λ ds. open_in (get_or vs l.place empty) ds) (take_longer bs cs l.looked m k)
+      ap (λ us. unbound_at (get_or us l.place empty) (take l.looked cs)) g.1
+      ∙ ap (λ (v : Triple). unbound_at v (take l.looked cs)) (get_or_append_left vs g.0 empty l.place p)
+      ∙ ap (λ ds. unbound_at (get_or vs l.place empty) ds) (take_longer bs cs l.looked m k)
 
-  pub look_goes : IsLook vs bs l → IsLook ws cs l
+  pub look_goes : HasLooked vs bs l → HasLooked ws cs l
   look_goes h =
       let p = h.0 in let k = h.1 in
       let i = longer_length vs ws g in let j = longer_length bs cs m in
       (omega (arith, p, i), omega (arith, k, j), h.2 ∙ sym (open_same p k))
 
-  pub look_back : l.place < length vs → l.looked ≤ length bs → IsLook ws cs l → IsLook vs bs l
+  pub look_back : l.place < length vs → l.looked ≤ length bs → HasLooked ws cs l → HasLooked vs bs l
   look_back p k h = (p, k, h.2 ∙ open_same p k)
 
 -- the store alone goes on, or the ranges alone
-pub look_on : (vs ws : List Triple) (bs : List Brought) (l : Look) → IsPrefixOf vs ws → IsLook vs bs l → IsLook ws bs l
+pub look_on : (vs ws : List Triple) (bs : List Brought) (l : Look) → IsPrefixOf vs ws → HasLooked vs bs l → HasLooked ws bs l
 look_on vs ws bs l g h = look_goes vs ws bs bs l g (longer_same bs bs refl) h
 
-pub look_with : (vs : List Triple) (bs cs : List Brought) (l : Look) → IsLonger bs cs → IsLook vs bs l → IsLook vs cs l
+pub look_with : (vs : List Triple) (bs cs : List Brought) (l : Look) → IsLonger bs cs → HasLooked vs bs l → HasLooked vs cs l
 look_with vs bs cs l m h = look_goes vs vs bs cs l (longer_same vs vs refl) m h
 
 -- nothing was looked at
-pub look_none : (vs : List Triple) (bs : List Brought) (l : Look) → 0 < length vs → l.place ≡ 0 → l.looked ≡ 0 → l.unbound.items ≡ [] → IsLook vs bs l
-look_none vs bs l h p k o = (omega (arith, h, p), omega (arith, k), o ∙ sym (ap (λ n. open_in (get_or vs l.place empty) (take n bs)) k))
+pub look_none : (vs : List Triple) (bs : List Brought) (l : Look) → 0 < length vs → l.place ≡ 0 → l.looked ≡ 0 → l.unbound.items ≡ [] → HasLooked vs bs l
+look_none vs bs l h p k o = (omega (arith, h, p), omega (arith, k), o ∙ sym (ap (λ n. unbound_at (get_or vs l.place empty) (take n bs)) k))
 
 pub some_versions : (s : Store) → 0 < length (versions s)
 some_versions s = let e = length-append (past s) (present s ∷ []) in omega (arith, e)
 
 -- all was looked at
 pub look_here : (s : Store) (bs : List Brought) (l : Look) → l.place ≡ length (past s) → l.looked ≡ length bs → l.unbound.items ≡ unbound_vars (state_in s) (vars_of_brought bs)
-    → IsLook (versions s) bs l
+    → HasLooked (versions s) bs l
 look_here s bs l p k o =
     let e = length-append (past s) (present s ∷ []) in
     let there : get_or (versions s) l.place empty ≡ present s = ap (λ n. get_or (versions s) n empty) p ∙ get_or-append_seam (past s) (present s) [] empty in
     let all : take l.looked bs ≡ bs = take_all l.looked bs (omega (arith, k)) in
-    (omega (arith, e, p), omega (arith, k), o ∙ sym (ap₂ (λ (v : Triple) (cs : List Brought). open_in v cs) there all))
+    (omega (arith, e, p), omega (arith, k), o ∙ sym (ap₂ (λ (v : Triple) (cs : List Brought). unbound_at v cs) there all))
 
 -- the search goes back
-pub look_undone : (vs : List Triple) (bs : List Brought) (l : Look) (m n : ℕ) → l.place ≤ m → l.looked ≤ n → m < length vs → n ≤ length bs → IsLook vs bs l
-    → IsLook (take (m + 1) vs) (take n bs) l
+pub look_undone : (vs : List Triple) (bs : List Brought) (l : Look) (m n : ℕ) → l.place ≤ m → l.looked ≤ n → m < length vs → n ≤ length bs → HasLooked vs bs l
+    → HasLooked (take (m + 1) vs) (take n bs) l
 look_undone vs bs l m n p k i j h =
     let d : length (take (m + 1) vs) ≡ m + 1 = length-take-le (m + 1) vs (omega (arith, i)) in
     let e : length (take n bs) ≡ n = length-take-le n bs j in
     look_back (take (m + 1) vs) vs (take n bs) bs l (drop (m + 1) vs, sym (take-append-drop (m + 1) vs)) (drop n bs, sym (take-append-drop n bs))
     (omega (arith, d, p)) (omega (arith, e, k)) h
 
-pub look_forgotten : (vs : List Triple) (bs : List Brought) (l : Look) (m n : ℕ) → m < length vs → l.place ≡ 0 → l.looked ≡ 0 → l.unbound.items ≡ [] → IsLook (take (m + 1) vs) (take n bs) l
+pub look_forgotten : (vs : List Triple) (bs : List Brought) (l : Look) (m n : ℕ) → m < length vs → l.place ≡ 0 → l.looked ≡ 0 → l.unbound.items ≡ [] → HasLooked (take (m + 1) vs) (take n bs) l
 look_forgotten vs bs l m n i p k o =
     let d : length (take (m + 1) vs) ≡ m + 1 = length-take-le (m + 1) vs (omega (arith, i)) in
     look_none (take (m + 1) vs) (take n bs) l (omega (arith, d)) p k o

@@ -6,7 +6,7 @@ ghost use Rattle.ap_defs.specs.Answers.{answer_of, kind_at, typed_var_of, typed_
 ghost use Rattle.ap_defs.specs.Terms.{term_of};
 ghost use Rattle.ap_defs.specs.Types.{locals_of};
 ghost use Rattle.ap_machine.specs.Brought.{vars_of_brought};
-ghost use Rattle.ap_machine.specs.Looks.{IsLook};
+ghost use Rattle.ap_machine.specs.Looks.{HasLooked};
 ghost use Rattle.ap_machine.specs.Unbound.{answer_by_unbound, vars_besides};
 ghost use Rattle.ap_machine.specs.Views.{state_in};
 ghost use Rattle.ap_store.specs.Views.{kinds, versions};
@@ -86,7 +86,7 @@ pub fn answer_in(
     brought: &[Brought<'_>],
 ) -> Result<Answer, Memory>
     requires few { length locals.now < 2 ^ 64 }
-    requires look { IsLook (versions store.now) brought.now look.now }
+    requires look { HasLooked (versions store.now) brought.now look.now }
     ensures { IfOk result (λ a. answer_of a
         ≡ answer_by_unbound (locals_of locals.now) (state_in store.now)
         (vars_of_brought brought.now)) }

@@ -3,7 +3,7 @@
 ghost use Rattle.std.specs.Prelude.{◌≡◌, ◌+◌, ◌<◌, ◌≤◌, [], IfOk, List as list, length, take};
 ghost use Rattle.ap_store.specs.Triples.{Triple};
 ghost use Rattle.ap_store.specs.Views.{versions};
-ghost use Rattle.ap_machine.specs.Looks.{IsLook};
+ghost use Rattle.ap_machine.specs.Looks.{HasLooked};
 ghost use Rattle.ap_machine.specs.declared.brought.Brought.{Brought as ranges};
 
 use crate::brought::Brought;
@@ -43,9 +43,9 @@ impl Look {
     /// Forgets what was seen, unless it was seen at a version up to this place, and of no more than so many ranges. It
     /// takes no memory.
     pub fn go_back(&mut self, place: usize, brought: usize)
-        ensures { (vs : list Triple) (bs : list ranges) → IsLook vs bs self.old
+        ensures { (vs : list Triple) (bs : list ranges) → HasLooked vs bs self.old
             → place < length vs → brought ≤ length bs
-            → IsLook (take (place + 1) vs) (take brought bs) self.new }
+            → HasLooked (take (place + 1) vs) (take brought bs) self.new }
     {
         if self.place > place || self.looked > brought {
             self.place = 0;
@@ -66,8 +66,8 @@ impl Look {
         store: &Store<'_>,
         brought: &[Brought<'_>],
     ) -> Result<Look, Memory>
-        requires { IsLook (versions store.now) brought.now self.now }
-        ensures { IfOk result (λ l. IsLook (versions store.now) brought.now l) }
+        requires { HasLooked (versions store.now) brought.now self.now }
+        ensures { IfOk result (λ l. HasLooked (versions store.now) brought.now l) }
     {
         let unbound = unbound_of(alloc, store, self, brought)?;
         Ok(Look {

@@ -2,7 +2,7 @@
 
 ghost use Rattle.ap_machine.specs.Below.{AreWaitingBelow};
 ghost use Rattle.ap_machine.specs.BelowProps.{waiting_prop};
-ghost use Rattle.ap_machine.specs.Looks.{IsLook, look_prop};
+ghost use Rattle.ap_machine.specs.Looks.{HasLooked, look_prop};
 ghost use Rattle.ap_machine.specs.Stacks.{waiting_in};
 ghost use Rattle.ap_store.specs.Views.{present, versions};
 
@@ -32,7 +32,7 @@ pub struct Machine<'a> {
     found: bool,
     alloc: Global,
     pub work: Work<'a>,
-    pub ghost seen: { IsLook (versions store) brought.items look } by { look_prop (versions store) brought.items look },
+    pub ghost seen: { HasLooked (versions store) brought.items look } by { look_prop (versions store) brought.items look },
     pub ghost below: { AreWaitingBelow (present store).next (waiting_in goals) } by { waiting_prop (present store).next (waiting_in goals) },
 }
 

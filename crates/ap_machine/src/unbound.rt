@@ -6,7 +6,7 @@ ghost use Rattle.ap_defs.specs.Types.{locals_of};
 ghost use Rattle.ap_store.specs.Views.{bindings_of, versions};
 ghost use Rattle.ap_theory.specs.Variables.{is_bound};
 ghost use Rattle.ap_machine.specs.Brought.{vars_of_brought, vars_of_one};
-ghost use Rattle.ap_machine.specs.Looks.{IsLook};
+ghost use Rattle.ap_machine.specs.Looks.{HasLooked};
 ghost use Rattle.ap_machine.specs.Unbound.{unbound_vars};
 ghost use Rattle.ap_machine.specs.Views.{state_in};
 
@@ -118,7 +118,7 @@ pub fn unbound_of(
     look: &Look,
     brought: &[Brought<'_>],
 ) -> Result<Vec<Var>, Memory>
-    requires { IsLook (versions store.now) brought.now look.now }
+    requires { HasLooked (versions store.now) brought.now look.now }
     ensures { IfOk result (λ v. v.items
         ≡ unbound_vars (state_in store.now) (vars_of_brought brought.now)) }
 {

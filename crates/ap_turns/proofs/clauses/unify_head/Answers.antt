@@ -10,7 +10,7 @@ use Rattle.ap_store.specs.Triples.{IsPrefixOf, Triple}
 use Rattle.ap_store.specs.Views.{kinds, present, versions}
 use Rattle.ap_store.proofs.TrailLemmas.{goes_on_both}
 use Rattle.ap_machine.specs.Below.{AreWaitingBelow}
-use Rattle.ap_machine.specs.Looks.{IsLook}
+use Rattle.ap_machine.specs.Looks.{HasLooked}
 use Rattle.ap_machine.specs.Machines.{position_of, track_of}
 use Rattle.ap_machine.specs.Stacks.{cells_of, waiting_in}
 use Rattle.ap_turns.proofs.HeadLemmas.{args_below, head_below, head_next, head_none, head_some, made_kinds, made_next, position_back, present_back, terms_cut, track_back, versions_back, waiting_made}
@@ -106,7 +106,7 @@ invariant_of-machine-else-branch c =
     let longer : (ks : List NominalKind) × (kinds d ≡ kinds s ++ ks) = (kinds_of (locals_of c.items.result.now), c.unify.ensures.kinds ∙ c.in_ok-start.ensures.kinds) in
     record {
       below = subst (λ (a : Triple). AreWaitingBelow a.next (waiting_in c.args.machine.now.goals)) (sym (present_back s d c.undo_to.new.self c.mark-mark.result.place on longer c.mark-mark.ensures c.undo_to.ensures.versions c.undo_to.ensures.kinds)) c.args.machine.now.below;
-      seen = subst (λ (vs : List Triple). IsLook vs c.args.machine.now.brought.items c.args.machine.now.look) (sym (versions_back s d c.undo_to.new.self c.mark-mark.result.place on longer c.mark-mark.ensures c.undo_to.ensures.versions c.undo_to.ensures.kinds)) c.args.machine.now.seen;
+      seen = subst (λ (vs : List Triple). HasLooked vs c.args.machine.now.brought.items c.args.machine.now.look) (sym (versions_back s d c.undo_to.new.self c.mark-mark.result.place on longer c.mark-mark.ensures c.undo_to.ensures.versions c.undo_to.ensures.kinds)) c.args.machine.now.seen;
     }
 
 pub returns-else-branch-clause-state : goal.returns-else-branch-clause-state
