@@ -71,7 +71,11 @@ pub(crate) fn write_suspension(
 }
 
 /// Writes what stands before the left part of a pair, and keeps what will stand behind the right one.
-pub(crate) fn begin_pair(out: &mut Vec<u8>, closers: &mut Vec<u8>, place: Place) -> Result<(), Memory>
+pub(crate) fn begin_pair(
+    out: &mut Vec<u8>,
+    closers: &mut Vec<u8>,
+    place: Place,
+) -> Result<(), Memory>
     ensures written { OnOk result (out.new.items
         ≡ out.old.items ++ pair_opening (written_place place)) }
     ensures kept { OnOk result (closers.new.items
