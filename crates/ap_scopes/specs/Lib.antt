@@ -2,7 +2,6 @@ pub mod Declarations
 pub mod Types
 pub mod Identifiers
 pub mod Resolution
-pub mod Owned
 pub mod Flaws
 pub mod Words
 pub mod Marks

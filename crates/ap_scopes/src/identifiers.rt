@@ -31,12 +31,23 @@ const FEW: usize = 16;
 
 /// The identifiers found so far, each of which has the number of its place. Where there are tables, they have
 /// the numbers of those that belong to the whole clause or query.
-#[derive(Drop)]
 pub struct Identifiers<'a> {
     pub found: Vec<Identifier<'a>>,
     has_tables: bool,
     names: Numbers<'a>,
     variables: Numbers<'a>,
+}
+
+// Written out, so that it is not written out at each exit of what owns identifiers.
+impl Drop for Identifiers<'_> {
+    fn drop(self) {
+        let Identifiers {
+            found: _found,
+            has_tables: _,
+            names: _names,
+            variables: _variables,
+        } = self;
+    }
 }
 
 /// Whether two occurrences are spelled alike.
@@ -117,7 +128,13 @@ impl<'a> Identifiers<'a> {
     pub fn into_found(self) -> Vec<Identifier<'a>>
         ensures { map identifier_of result.items ≡ found_of self.entry }
     {
-        self.found
+        let Identifiers {
+            found,
+            has_tables: _,
+            names: _names,
+            variables: _variables,
+        } = self;
+        found
     }
 
     /// A new identifier is found.

@@ -6,7 +6,6 @@ ghost use Rattle.ap_defs.specs.Goals.{goal_over};
 ghost use Rattle.ap_defs.specs.RawTerms.{raw_of};
 ghost use Rattle.ap_trees.specs.Goals.{Equation};
 ghost use Rattle.ap_trees.specs.Trees.{goal_of_tree, term_of, trees_of};
-ghost use Rattle.ap_scopes.specs.Owned.{goal_together, tree_together};
 ghost use Rattle.ap_scopes.specs.Resolution as spec;
 ghost use Rattle.ap_scopes.specs.Views.{IsIndexed, IsSmall, IsNumbered, declared_of, found_of};
 
@@ -19,88 +18,8 @@ use ap_defs::lists::List;
 use ap_defs::memory::Memory;
 use ap_defs::terms::Raw;
 use ap_spines::{above_tail, both_layer, close_goal, either_layer, raw_pair, turn_back};
-use ap_trees::{GoalTree, Tree};
+use ap_trees::{GoalTree, TakenGoal, TakenTree, Tree};
 use std::alloc::Global;
-use std::mem;
-
-/// A tree, taken apart: a list cell, a pair, or one that stays whole.
-#[derive(Drop)]
-enum TakenTree<'a> {
-    Cell(Tree<'a>, Tree<'a>),
-    Pair(Tree<'a>, Tree<'a>),
-    Whole(Tree<'a>),
-}
-
-/// The tree of a goal, taken apart: two goals, an equation, or one that stays whole.
-#[derive(Drop)]
-enum TakenGoal<'a> {
-    Both(GoalTree<'a>, GoalTree<'a>),
-    Either(GoalTree<'a>, GoalTree<'a>),
-    Equal(Tree<'a>, Tree<'a>),
-    Whole(GoalTree<'a>),
-}
-
-/// A tree, taken apart.
-fn tree_apart<'a>(tree: Tree<'a>) -> TakenTree<'a>
-    ensures { tree_together result ≡ term_of tree.entry }
-{
-    let mut whole = tree;
-    match &mut whole {
-        Tree::Cell(head, _) => {
-            let head = mem::replace(&mut **head, Tree::Unit);
-            let Tree::Cell(_, tail) = &mut whole else {
-                unreachable!()
-            };
-            let tail = mem::replace(&mut **tail, Tree::Unit);
-            return TakenTree::Cell(head, tail);
-        }
-        Tree::Pair(left, _) => {
-            let left = mem::replace(&mut **left, Tree::Unit);
-            let Tree::Pair(_, right) = &mut whole else {
-                unreachable!()
-            };
-            let right = mem::replace(&mut **right, Tree::Unit);
-            return TakenTree::Pair(left, right);
-        }
-        _ => {}
-    }
-    TakenTree::Whole(whole)
-}
-
-/// The tree of a goal, taken apart. What is left where its goals were takes no memory.
-fn goal_apart<'a>(goal: GoalTree<'a>) -> TakenGoal<'a>
-    ensures { goal_together result ≡ goal_of_tree goal.entry }
-{
-    let mut whole = goal;
-    match &mut whole {
-        GoalTree::Both(left, _) => {
-            let left = mem::replace(&mut **left, GoalTree::Equal(Tree::Unit, Tree::Unit));
-            let GoalTree::Both(_, right) = &mut whole else {
-                unreachable!()
-            };
-            let right = mem::replace(&mut **right, GoalTree::Equal(Tree::Unit, Tree::Unit));
-            return TakenGoal::Both(left, right);
-        }
-        GoalTree::Either(left, _) => {
-            let left = mem::replace(&mut **left, GoalTree::Equal(Tree::Unit, Tree::Unit));
-            let GoalTree::Either(_, right) = &mut whole else {
-                unreachable!()
-            };
-            let right = mem::replace(&mut **right, GoalTree::Equal(Tree::Unit, Tree::Unit));
-            return TakenGoal::Either(left, right);
-        }
-        GoalTree::Equal(left, _) => {
-            let left = mem::replace(left, Tree::Unit);
-            let GoalTree::Equal(_, right) = &mut whole else {
-                unreachable!()
-            };
-            let right = mem::replace(right, Tree::Unit);
-            return TakenGoal::Equal(left, right);
-        }
-        _ => {}
-    }
-    TakenGoal::Whole(whole)
-}
 
 /// A term with numbers for its words, whose tree is let go as a whole.
 fn own_part<'a>(
@@ -144,7 +63,7 @@ fn own_term<'a>(
     let mut above = Raw::Unit;
     let mut rest = tree;
     'resolving: loop {
-        match tree_apart(rest) {
+        match rest.apart() {
             TakenTree::Cell(head, tail) => {
                 let first = own_part(alloc, declared, head, found)?;
                 above = above_tail(alloc, above, first)?;
@@ -249,7 +168,7 @@ pub fn own_goal<'a>(
     let mut layers = Vec::new(alloc);
     let mut rest = goal;
     'resolving: loop {
-        match goal_apart(rest) {
+        match rest.apart() {
             TakenGoal::Both(left, right) => {
                 let left = own_front(alloc, declared, left, found)?;
                 layers.push(both_layer(alloc, left)?)?;

@@ -4,6 +4,7 @@ pub mod Terms
 pub mod Goals
 pub mod Items
 pub mod Trees
+pub mod Apart
 pub mod Outcomes
 pub mod TypeGrammar
 pub mod TermGrammar

@@ -113,6 +113,14 @@ pub(crate) fn cells<'a>(
     Ok(whole)
 }
 
+/// The list of one term.
+pub(crate) fn sole_list<'a>(alloc: Global, first: Tree<'a>) -> Result<Tree<'a>, AllocError>
+    ensures { IfOk result (λ t. term_of t ≡ trees.Cell (term_of first.entry) trees.Nil) }
+{
+    let head = Box::new(alloc, first)?;
+    Ok(Tree::Cell(head, Box::new(alloc, Tree::Nil)?))
+}
+
 /// A term under a binder.
 pub(crate) fn abstracted<'a>(
     alloc: Global,

@@ -19,5 +19,7 @@ pub use cursor::{after_bar, after_close, after_close_list, after_comma, after_la
 pub use outcome::ReadError;
 pub use symbols::{Symbol, symbol_of};
 pub use terms::{term, term_list};
-pub use trees::{Application, Args, Binder, Form, GoalTree, Item, Sides, Tree, TypeTree};
+pub use trees::{
+    Application, Args, Binder, Form, GoalTree, Item, Sides, TakenGoal, TakenTree, Tree, TypeTree,
+};
 pub use types::{type_list, type_tree};

@@ -2,6 +2,10 @@
 //
 // A tree is as deep to the right as its text is long, so each is dropped in a loop.
 
+ghost use Rattle.std.specs.Prelude.{◌≡◌};
+ghost use Rattle.ap_trees.specs.Apart.{goal_together, tree_together};
+ghost use Rattle.ap_trees.specs.Trees.{goal_of_tree, term_of};
+
 use ap_defs::lists::List;
 
 /// What stands left of `\` or as one of the two sides of a swapping.
@@ -149,4 +153,54 @@ pub enum Form<'a> {
 pub struct Item<'a> {
     pub line: u64,
     pub form: Form<'a>,
+}
+
+/// A tree, taken apart: a list cell, a pair, or one that stays whole.
+#[derive(Drop)]
+pub enum TakenTree<'a> {
+    Cell(Tree<'a>, Tree<'a>),
+    Pair(Tree<'a>, Tree<'a>),
+    Whole(Tree<'a>),
+}
+
+/// The tree of a goal, taken apart: two goals, an equation, or one that stays whole.
+#[derive(Drop)]
+pub enum TakenGoal<'a> {
+    Both(GoalTree<'a>, GoalTree<'a>),
+    Either(GoalTree<'a>, GoalTree<'a>),
+    Equal(Tree<'a>, Tree<'a>),
+    Whole(GoalTree<'a>),
+}
+
+impl<'a> Tree<'a> {
+    /// The tree, taken apart.
+    pub fn apart(self) -> TakenTree<'a>
+        ensures { tree_together result ≡ term_of self.entry }
+    {
+        match self {
+            Tree::Cell(head, tail) => TakenTree::Cell(Box::into_inner(head), Box::into_inner(tail)),
+            Tree::Pair(left, right) => {
+                TakenTree::Pair(Box::into_inner(left), Box::into_inner(right))
+            }
+            whole => TakenTree::Whole(whole),
+        }
+    }
+}
+
+impl<'a> GoalTree<'a> {
+    /// The tree of a goal, taken apart.
+    pub fn apart(self) -> TakenGoal<'a>
+        ensures { goal_together result ≡ goal_of_tree self.entry }
+    {
+        match self {
+            GoalTree::Both(left, right) => {
+                TakenGoal::Both(Box::into_inner(left), Box::into_inner(right))
+            }
+            GoalTree::Either(left, right) => {
+                TakenGoal::Either(Box::into_inner(left), Box::into_inner(right))
+            }
+            GoalTree::Equal(left, right) => TakenGoal::Equal(left, right),
+            whole => TakenGoal::Whole(whole),
+        }
+    }
 }

@@ -72,3 +72,82 @@ pub innermost_goal-returns-in-New-clause-value : goal.innermost_goal-returns-in-
 innermost_goal-returns-in-New-clause-value t c =
     let resolved = λ (u : goals.Goal). resolved_goal (declared_of c.args.declared.now) (scope_of c.args.scope.now) u (found_of c.loop-rest.found) in
     IfOk-weaker _ _ _ (λ g e. within_is (raw_goal_within c.loop-rest.layers.items) (goal_over raw_of g, found_of c.resolved_new.new.found) (resolved (goal_of_tree c.loop-rest.rest.now)) _ (e ∙ ap (λ (u : GoalTree). resolved (goals.New_name c.in-New.word.now (goal_of_tree u))) c.deref-in-New.ensures ∙ ap (λ (u : GoalTree). resolved (goal_of_tree u)) (sym c.in-New.is)) c.loop-rest.invariant.all) c.resolved_new.ensures.value
+
+-- want of memory
+pub innermost_goal-returns-in_err-both_layer-in-Both-clause-numbered : goal.innermost_goal-returns-in_err-both_layer-in-Both-clause-numbered
+innermost_goal-returns-in_err-both_layer-in-Both-clause-numbered t c = tt
+
+pub innermost_goal-returns-in_err-both_layer-in-Both-clause-value : goal.innermost_goal-returns-in_err-both_layer-in-Both-clause-value
+innermost_goal-returns-in_err-both_layer-in-Both-clause-value t c = tt
+
+pub innermost_goal-returns-in_err-either_layer-in-Either-clause-numbered : goal.innermost_goal-returns-in_err-either_layer-in-Either-clause-numbered
+innermost_goal-returns-in_err-either_layer-in-Either-clause-numbered t c = tt
+
+pub innermost_goal-returns-in_err-either_layer-in-Either-clause-value : goal.innermost_goal-returns-in_err-either_layer-in-Either-clause-value
+innermost_goal-returns-in_err-either_layer-in-Either-clause-value t c = tt
+
+pub innermost_goal-returns-in_err-left-in-Both-clause-numbered : goal.innermost_goal-returns-in_err-left-in-Both-clause-numbered
+innermost_goal-returns-in_err-left-in-Both-clause-numbered t c = tt
+
+pub innermost_goal-returns-in_err-left-in-Both-clause-value : goal.innermost_goal-returns-in_err-left-in-Both-clause-value
+innermost_goal-returns-in_err-left-in-Both-clause-value t c = tt
+
+pub innermost_goal-returns-in_err-left-in-Either-clause-numbered : goal.innermost_goal-returns-in_err-left-in-Either-clause-numbered
+innermost_goal-returns-in_err-left-in-Either-clause-numbered t c = tt
+
+pub innermost_goal-returns-in_err-left-in-Either-clause-value : goal.innermost_goal-returns-in_err-left-in-Either-clause-value
+innermost_goal-returns-in_err-left-in-Either-clause-value t c = tt
+
+pub innermost_goal-returns-in_err-push-in-Both-clause-numbered : goal.innermost_goal-returns-in_err-push-in-Both-clause-numbered
+innermost_goal-returns-in_err-push-in-Both-clause-numbered t c = tt
+
+pub innermost_goal-returns-in_err-push-in-Both-clause-value : goal.innermost_goal-returns-in_err-push-in-Both-clause-value
+innermost_goal-returns-in_err-push-in-Both-clause-value t c = tt
+
+pub innermost_goal-returns-in_err-push-in-Either-clause-numbered : goal.innermost_goal-returns-in_err-push-in-Either-clause-numbered
+innermost_goal-returns-in_err-push-in-Either-clause-numbered t c = tt
+
+pub innermost_goal-returns-in_err-push-in-Either-clause-value : goal.innermost_goal-returns-in_err-push-in-Either-clause-value
+innermost_goal-returns-in_err-push-in-Either-clause-value t c = tt
+
+pub resolved_exists-returns-in_err-inner-clause-numbered : goal.resolved_exists-returns-in_err-inner-clause-numbered
+resolved_exists-returns-in_err-inner-clause-numbered t c = tt
+
+pub resolved_exists-returns-in_err-inner-clause-value : goal.resolved_exists-returns-in_err-inner-clause-value
+resolved_exists-returns-in_err-inner-clause-value t c = tt
+
+pub resolved_exists-returns-in_err-new-clause-numbered : goal.resolved_exists-returns-in_err-new-clause-numbered
+resolved_exists-returns-in_err-new-clause-numbered t c = tt
+
+pub resolved_exists-returns-in_err-new-clause-value : goal.resolved_exists-returns-in_err-new-clause-value
+resolved_exists-returns-in_err-new-clause-value t c = tt
+
+pub resolved_exists-returns-in_err-num-clause-numbered : goal.resolved_exists-returns-in_err-num-clause-numbered
+resolved_exists-returns-in_err-num-clause-numbered t c = tt
+
+pub resolved_exists-returns-in_err-num-clause-value : goal.resolved_exists-returns-in_err-num-clause-value
+resolved_exists-returns-in_err-num-clause-value t c = tt
+
+pub resolved_goal-returns-in_err-innermost-clause-numbered : goal.resolved_goal-returns-in_err-innermost-clause-numbered
+resolved_goal-returns-in_err-innermost-clause-numbered t c = tt
+
+pub resolved_goal-returns-in_err-innermost-clause-value : goal.resolved_goal-returns-in_err-innermost-clause-value
+resolved_goal-returns-in_err-innermost-clause-value t c = tt
+
+pub resolved_new-returns-in_err-inner-clause-numbered : goal.resolved_new-returns-in_err-inner-clause-numbered
+resolved_new-returns-in_err-inner-clause-numbered t c = tt
+
+pub resolved_new-returns-in_err-inner-clause-value : goal.resolved_new-returns-in_err-inner-clause-value
+resolved_new-returns-in_err-inner-clause-value t c = tt
+
+pub resolved_new-returns-in_err-new-clause-numbered : goal.resolved_new-returns-in_err-new-clause-numbered
+resolved_new-returns-in_err-new-clause-numbered t c = tt
+
+pub resolved_new-returns-in_err-new-clause-value : goal.resolved_new-returns-in_err-new-clause-value
+resolved_new-returns-in_err-new-clause-value t c = tt
+
+pub resolved_new-returns-in_err-num-clause-numbered : goal.resolved_new-returns-in_err-num-clause-numbered
+resolved_new-returns-in_err-num-clause-numbered t c = tt
+
+pub resolved_new-returns-in_err-num-clause-value : goal.resolved_new-returns-in_err-num-clause-value
+resolved_new-returns-in_err-num-clause-value t c = tt

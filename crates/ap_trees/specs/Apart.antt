@@ -4,10 +4,10 @@ use Rattle.ap_trees.specs.Goals.{Goal}
 use Rattle.ap_trees.specs.Terms as terms
 use Rattle.ap_trees.specs.Terms.{Term}
 use Rattle.ap_trees.specs.Trees.{goal_of_tree, term_of}
-use Rattle.ap_scopes.specs.declared.owned.TakenTree.{TakenTree}
-use Rattle.ap_scopes.specs.declared.owned.TakenTree.TheVariants as trees
-use Rattle.ap_scopes.specs.declared.owned.TakenGoal.{TakenGoal}
-use Rattle.ap_scopes.specs.declared.owned.TakenGoal.TheVariants as apart
+use Rattle.ap_trees.specs.declared.trees.TakenTree.{TakenTree}
+use Rattle.ap_trees.specs.declared.trees.TakenTree.TheVariants as trees
+use Rattle.ap_trees.specs.declared.trees.TakenGoal.{TakenGoal}
+use Rattle.ap_trees.specs.declared.trees.TakenGoal.TheVariants as apart
 
 abbrev pub tree_together : TakenTree → Term
 tree_together (trees.Cell t u) = terms.Cell (term_of t) (term_of u)
