@@ -50,6 +50,10 @@ module _ {A B : Type 0} (view : B → A) (parts : A → List A) (p own : A → B
       let here : p t ≡ all_pass p (parts t) = test t ∙ ap (λ b. b && all_pass p (parts t)) o in
       ap (all_pass p) f ∙ pass_append p (lent view ws) (parts t) ∙ ap (λ b. all_pass p (lent view ws) && b) (sym here)
 
+  -- none waits any more
+  pub ends_here : (next : List (Bor B)) → next ≡ [] → lent view next ≡ lent view ws ++ parts t → own t ≡ true → true ≡ all_left view p ws t
+  ends_here next e f o = sym (ap (λ rs. all_pass p (lent view rs)) e) ∙ waits_on next f o
+
   -- the last of those that wait comes next
   pub goes_on : (next rs : List (Bor B)) (r : Bor B) → next ≡ rs ++ r ∷ [] → lent view next ≡ lent view ws ++ parts t → own t ≡ true → all_left view p rs (view r.now) ≡ all_left view p ws t
   goes_on next rs r e f o =
