@@ -1,7 +1,7 @@
 use Rattle.std.proofs.Common.{◌≡◌, [], sym, ap, ◌∙◌, arith}
 use Rattle.std.proofs.lemmas.Result.{IfOk-weaker}
-use Rattle.ap_defs.specs.Goals.{goal_over, both, either}
-use Rattle.ap_defs.specs.RawTerms.{raw_of}
+use Rattle.ap_defs.specs.Goals.{GoalOver, goal_over, both, either}
+use Rattle.ap_defs.specs.RawTerms.{RawTerm, raw_of}
 use Rattle.ap_spines.specs.Spines.{raw_goal_within}
 use Rattle.ap_trees.specs.Goals as goals
 use Rattle.ap_trees.specs.Trees.{goal_of_tree, term_of}
@@ -67,7 +67,7 @@ returns-in-Equal-clause-value c =
     let last = goal_over raw_of c.in_ok-last-in-Equal.last in
     let is : goal_of_tree c.resolving.rest ≡ goals.Equation (term_of c.in-Equal.left) (term_of c.in-Equal.right) = sym c.apart.ensures ∙ ap goal_together c.in-Equal.is in
     let part = c.in_ok-last-in-Equal.ensures.value ∙ ap (λ u. resolved_goal d [] u before) (sym is) in
-    IfOk-weaker _ _ _ (λ g e. ap (λ u. (u, after)) e ∙ within_is (raw_goal_within c.resolving.layers.items) (last, after) (resolved_goal d [] (goal_of_tree c.resolving.rest) before) _ part c.resolving.invariant.all)
+    IfOk-weaker _ _ _ (λ g (e : goal_over raw_of g ≡ raw_goal_within c.resolving.layers.items last). ap (λ (u : GoalOver RawTerm). (u, after)) e ∙ within_is (raw_goal_within c.resolving.layers.items) (last, after) (resolved_goal d [] (goal_of_tree c.resolving.rest) before) _ part c.resolving.invariant.all)
     c.close_goal.ensures
 
 pub returns-in-Equal-clause-numbered : goal.returns-in-Equal-clause-numbered
@@ -81,57 +81,8 @@ returns-in-Whole-clause-value c =
     let last = goal_over raw_of c.in_ok-last-in-Whole.last in
     let is : goal_of_tree c.resolving.rest ≡ goal_of_tree c.in-Whole.last = sym c.apart.ensures ∙ ap goal_together c.in-Whole.is in
     let part = c.in_ok-last-in-Whole.ensures.value ∙ ap (λ u. resolved_goal d [] u before) (sym is) in
-    IfOk-weaker _ _ _ (λ g e. ap (λ u. (u, after)) e ∙ within_is (raw_goal_within c.resolving.layers.items) (last, after) (resolved_goal d [] (goal_of_tree c.resolving.rest) before) _ part c.resolving.invariant.all)
+    IfOk-weaker _ _ _ (λ g (e : goal_over raw_of g ≡ raw_goal_within c.resolving.layers.items last). ap (λ (u : GoalOver RawTerm). (u, after)) e ∙ within_is (raw_goal_within c.resolving.layers.items) (last, after) (resolved_goal d [] (goal_of_tree c.resolving.rest) before) _ part c.resolving.invariant.all)
     c.close_goal-in-Whole.ensures
 
 pub returns-in-Whole-clause-numbered : goal.returns-in-Whole-clause-numbered
 returns-in-Whole-clause-numbered c = IfOk-weaker _ _ _ (λ g e. c.in_ok-last-in-Whole.ensures.numbered) c.close_goal-in-Whole.ensures
-
--- want of memory
-pub returns-in_err-both_layer-in-Both-clause-numbered : goal.returns-in_err-both_layer-in-Both-clause-numbered
-returns-in_err-both_layer-in-Both-clause-numbered c = tt
-
-pub returns-in_err-both_layer-in-Both-clause-value : goal.returns-in_err-both_layer-in-Both-clause-value
-returns-in_err-both_layer-in-Both-clause-value c = tt
-
-pub returns-in_err-either_layer-in-Either-clause-numbered : goal.returns-in_err-either_layer-in-Either-clause-numbered
-returns-in_err-either_layer-in-Either-clause-numbered c = tt
-
-pub returns-in_err-either_layer-in-Either-clause-value : goal.returns-in_err-either_layer-in-Either-clause-value
-returns-in_err-either_layer-in-Either-clause-value c = tt
-
-pub returns-in_err-last-in-Equal-clause-numbered : goal.returns-in_err-last-in-Equal-clause-numbered
-returns-in_err-last-in-Equal-clause-numbered c = tt
-
-pub returns-in_err-last-in-Equal-clause-value : goal.returns-in_err-last-in-Equal-clause-value
-returns-in_err-last-in-Equal-clause-value c = tt
-
-pub returns-in_err-last-in-Whole-clause-numbered : goal.returns-in_err-last-in-Whole-clause-numbered
-returns-in_err-last-in-Whole-clause-numbered c = tt
-
-pub returns-in_err-last-in-Whole-clause-value : goal.returns-in_err-last-in-Whole-clause-value
-returns-in_err-last-in-Whole-clause-value c = tt
-
-pub returns-in_err-left-in-Both-clause-numbered : goal.returns-in_err-left-in-Both-clause-numbered
-returns-in_err-left-in-Both-clause-numbered c = tt
-
-pub returns-in_err-left-in-Both-clause-value : goal.returns-in_err-left-in-Both-clause-value
-returns-in_err-left-in-Both-clause-value c = tt
-
-pub returns-in_err-left-in-Either-clause-numbered : goal.returns-in_err-left-in-Either-clause-numbered
-returns-in_err-left-in-Either-clause-numbered c = tt
-
-pub returns-in_err-left-in-Either-clause-value : goal.returns-in_err-left-in-Either-clause-value
-returns-in_err-left-in-Either-clause-value c = tt
-
-pub returns-in_err-push-in-Both-clause-numbered : goal.returns-in_err-push-in-Both-clause-numbered
-returns-in_err-push-in-Both-clause-numbered c = tt
-
-pub returns-in_err-push-in-Both-clause-value : goal.returns-in_err-push-in-Both-clause-value
-returns-in_err-push-in-Both-clause-value c = tt
-
-pub returns-in_err-push-in-Either-clause-numbered : goal.returns-in_err-push-in-Either-clause-numbered
-returns-in_err-push-in-Either-clause-numbered c = tt
-
-pub returns-in_err-push-in-Either-clause-value : goal.returns-in_err-push-in-Either-clause-value
-returns-in_err-push-in-Either-clause-value c = tt
