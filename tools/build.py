@@ -183,8 +183,12 @@ def end(process):
             pass
 
 
-def last_lines(count):
-    return "\n".join("    " + line[:160] for line in text_of(LOG).splitlines()[-count:])
+def say_log(what, count):
+    """Says what became of the build, where the log is, and its last lines."""
+    lines = text_of(LOG).splitlines()[-count:]
+    say(f"{what}; the log is {LOG}, and " + ("ends with" if lines else "is empty so far"))
+    if lines:
+        say("\n" + "\n".join("    " + line[:160] for line in lines))
 
 
 def run(words, progress):
@@ -199,8 +203,7 @@ def run(words, progress):
                 progress.look()
         except KeyboardInterrupt:
             end(process)
-            say(f"{progress.clock()} interrupted; the log is {LOG}, and ends with")
-            say("\n" + last_lines(5))
+            say_log(f"{progress.clock()} interrupted", 5)
             say("what was proved is kept: start again to go on")
             sys.exit(130)
         progress.look()
@@ -257,8 +260,7 @@ def build():
         status = run(["rt", "all", "check", "--jobs", str(jobs)], progress)
         status = status or run(["rt", "run", "--jobs", str(jobs), "--", *words_of_its_run()], progress)
     if status:
-        say(f"{progress.clock()} the program was not built; the log is {LOG}, and ends with")
-        say("\n" + last_lines(15))
+        say_log(f"{progress.clock()} the program was not built", 15)
         fail("what was proved is kept: a second start goes on from there")
     say(f"{progress.clock()} proved and built")
 
@@ -272,10 +274,20 @@ def main():
         os.utime(f"{TOP}/crates/{PROGRAM}/out/{PROGRAM}")
 
 
+STOPS = signal.SIGINT, signal.SIGTERM, signal.SIGHUP
+
+
+def interrupt(_signal, _frame):
+    """The first signal interrupts. Those behind it are ignored, so that what is being done ends and the log is named."""
+    for stop in STOPS:
+        signal.signal(stop, signal.SIG_IGN)
+    raise KeyboardInterrupt
+
+
 if __name__ == "__main__":
     # A stop by a signal is an interrupt like that of the keyboard, also where that one was ignored.
-    for stop in (signal.SIGINT, signal.SIGTERM, signal.SIGHUP):
-        signal.signal(stop, signal.default_int_handler)
+    for stop in STOPS:
+        signal.signal(stop, interrupt)
     try:
         main()
     except KeyboardInterrupt:

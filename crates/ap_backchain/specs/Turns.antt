@@ -1,5 +1,5 @@
 -- How many goals a search selects, which bounds its turns.
-use Rattle.std.specs.Prelude.{ℕ, zero, suc, ◌+◌, List, [], ◌∷◌, Option, Some, None}
+use Rattle.std.specs.Prelude.{ℕ, zero, suc, ◌+◌, ◌/◌, Bool, ◌&&◌, nat_le, nat_lt, List, [], ◌∷◌, Option, Some, None}
 use Rattle.ap_defs.specs.Freshness.{reduce}
 use Rattle.ap_defs.specs.Goals.{NominalGoal, succeed, atom, equal, fresh, both, either, exists, new, NominalClause, NominalQuery, Clauses, clauses_of}
 use Rattle.ap_defs.specs.Occurrences.{free_vars}
@@ -62,3 +62,7 @@ query_turns program d q = turns_from program (first_position d q)
 -- a search that takes no more is never given up
 abbrev pub few_turns : ℕ
 few_turns = 2048
+
+-- a search is wide that made many turns, and more than eight for each choice of its longest way
+abbrev pub is_wide : ℕ → ℕ → Bool
+is_wide turns longest = nat_le few_turns turns && nat_lt longest (turns / 8)

@@ -12,7 +12,7 @@ ghost use Rattle.ap_machine.specs.Machines.{next_of, position_of};
 ghost use Rattle.ap_machine.specs.Positions.{outs_from, turned, turned_goal};
 ghost use Rattle.ap_backchain.specs.Searches.{HasPoints, ended_outs, positions_followed, pending_positions, positions_with};
 ghost use Rattle.ap_backchain.specs.Starts.{first_position};
-ghost use Rattle.ap_backchain.specs.Turns.{few_turns, query_turns, turns_from};
+ghost use Rattle.ap_backchain.specs.Turns.{few_turns, is_wide, query_turns, turns_from};
 ghost use Rattle.ap_backchain.specs.Wanted as limits;
 ghost use Rattle.ap_paths.specs.Limits.{part};
 
@@ -268,7 +268,8 @@ pub fn outputs_from<'a>(
 /// Whether a search is wide that made so many turns, where its longest way has so many choices: it made
 /// many turns, and many for each of these.
 fn is_wide(turns: u64, longest: usize) -> bool
-    ensures { result ≡ true → few_turns ≤ turns }
+    ensures few { result ≡ true → few_turns ≤ turns }
+    ensures wide { result ≡ is_wide turns longest }
 {
     turns >= FEW_TURNS && turns / TURNS_A_CHOICE > longest as u64
 }

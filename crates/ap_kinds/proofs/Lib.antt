@@ -1,5 +1,6 @@
 pub mod LayerLemmas
 pub mod TakenLemmas
+pub mod LastLemmas
 pub mod SystemLemmas
 pub mod Lookups
 pub mod Walks

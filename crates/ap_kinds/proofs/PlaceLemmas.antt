@@ -1,9 +1,9 @@
 -- What is read off the places of a table, by what is read off their parts.
-use Rattle.std.proofs.Common.{◌≡◌, ◌<◌, ◌≤◌, ◌+◌, ◌⊎◌, ◌∙◌, ℕ, zero, suc, Bool, true, false, ◌||◌, List, [], ◌∷◌, ◌++◌, length, get_or, set, refl, sym, ap, subst, inl, inr, arith, Option, Some, None, Result, Ok, Err}
-use Rattle.std.specs.Prelude.{◌==◌, IfOk, IfErr, IfSome}
+use Rattle.std.proofs.Common.{◌≡◌, ◌<◌, ◌≤◌, ◌+◌, ◌⊎◌, ◌∙◌, ℕ, zero, suc, Bool, true, false, ◌||◌, List, [], ◌∷◌, ◌++◌, length, get_or, set, take, refl, sym, ap, subst, inl, inr, arith, Option, Some, None, Result, Ok, Err}
+use Rattle.std.specs.Prelude.{◌==◌, min, IfOk, IfErr, IfSome}
 use Rattle.std.proofs.Math.Seq.{get_or-append_seam}
 use Rattle.std.proofs.lemmas.Bool.Decides.{eqb_tells}
-use Rattle.std.proofs.lemmas.List.{get_or-set_same, get_or-set_other, get_or_append_left, get_or_default, length-append}
+use Rattle.std.proofs.lemmas.List.{get_or-set_same, get_or-set_other, get_or_append_left, get_or_default, get_or-take, length-append, length-take}
 use Rattle.ap_defs.specs.Types.{TypeShape, hole}
 use Rattle.ap_types.specs.declared.nodes.Node.{Node}
 use Rattle.ap_types.specs.declared.nodes.Node.TheVariants as nodes
@@ -17,7 +17,7 @@ use Rattle.ap_types.proofs.TableLemmas.{at_past, layer_at}
 use Rattle.ap_types.proofs.SettledLemmas.{open_value, past_value, length_values, value_at}
 use Rattle.ap_kinds.specs.declared.read_types.Declared.{Declared}
 use Rattle.ap_kinds.specs.declared.read_types.TypeRead.{TypeRead}
-use Rattle.ap_kinds.specs.ReadTypes.{IsReadBy, AreReadAt, AreAllRead, AreFirstRead, read_at, open_read}
+use Rattle.ap_kinds.specs.ReadTypes.{IsRead, IsReadBy, marks_of, AreReadAt, AreAllRead, AreFirstRead, read_at, open_read}
 
 below_or_past : (i j : ℕ) → (i < j) ⊎ (j ≤ i)
 below_or_past i j = grind arith
@@ -175,3 +175,40 @@ one_first d ts rs new r x h k e = subst (AreFirstRead d (x + 1) ts) (sym e) (rec
         subst (λ q. IsReadBy d (shape_at ts y) q) (sym at) (subst (λ n. IsReadBy d (shape_at ts n) r) (sym s) k)
   ];
 })
+
+pub kept_past : (holes count n k m : ℕ) → k ≡ min holes count → m ≡ min k n → m < count → (holes ≤ m) ⊎ (n ≤ m)
+kept_past holes count n k m e f l = elim (below_or_past k n) [ inl b ↦ inl (omega arith) | inr b ↦ inr (omega arith) ]
+
+pub past_more : (holes n x y : ℕ) → y ≡ x + 1 → (holes ≤ x) ⊎ (n ≤ x) → (holes ≤ y) ⊎ (n ≤ y)
+past_more holes n x y e h = elim h [ inl l ↦ inl (omega arith) | inr l ↦ inr (omega arith) ]
+
+pub push_length : {A : Type 0} (rs new : List A) (r : A) → new ≡ rs ++ r ∷ [] → length new ≡ length rs + 1
+push_length rs new r e = ap length e ∙ length-append rs (r ∷ [])
+
+min_below : (x k n : ℕ) → x < min k n → (x < k) × (x < n)
+min_below x k n l = (omega arith, omega arith)
+
+-- The first places are the holes, and past them nothing is said.
+pub taken_first : (d : Declared) (s : Solved) (rs new : List TypeRead) (k : ℕ) → k ≤ s.holes → new ≡ take k rs → AreAllRead d (shapes_of_nodes s.nodes.items) rs → AreFirstRead d (length new) (assignment_of s) new
+taken_first d s rs new k l e h = subst (λ (vs : List TypeRead). AreFirstRead d (length vs) (assignment_of s) vs) (sym e) (record {
+  as_many = refl;
+  each = λ x b.
+      let m = length-take k rs in
+      let many = h.as_many in
+      let short = min_below x k (length rs) (subst (λ n. x < n) m b) in
+      let same : read_at (take k rs) x ≡ read_at rs x = get_or-take k rs x open_read short.0 in
+      let value = hole_value s x (omega (arith, short.0, l)) in
+      subst (λ q. IsReadBy d (shape_at (assignment_of s) x) q) (sym same) (read_as d (shape_at (assignment_of s) x) (value_of (shapes_of_nodes s.nodes.items) x) (read_at rs x) value (h.each x (omega (arith, short.1, many))));
+})
+
+pub past_open : (d : Declared) (s : Solved) (rs : List TypeRead) (x : ℕ) (r : TypeRead) → AreAllRead d (shapes_of_nodes s.nodes.items) rs → (s.holes ≤ x) ⊎ (length rs ≤ x)
+    → ((n m : ℕ) (p : ℕ → Bool) (y : ℕ) → IsRead n m p (hole y) r) → IsReadBy d (shape_at (assignment_of s) x) r
+past_open d s rs x r h p o =
+    let unread = o d.name_types d.data_types (marks_of d) x in
+    elim p [
+      | inl l ↦ read_as d (shape_at (assignment_of s) x) (hole x) r (hole_past s x l) unread
+      | inr l ↦ elim (below_or_past x s.holes) [
+        | inl b ↦ let many = h.as_many in read_as d (shape_at (assignment_of s) x) (hole x) r (hole_unread s x b (omega (arith, l, many))) unread
+        | inr b ↦ read_as d (shape_at (assignment_of s) x) (hole x) r (hole_past s x b) unread
+      ]
+    ]

@@ -1,18 +1,19 @@
 -- The steps of a walk.
-use Rattle.std.proofs.Common.{◌≡◌, ◌<◌, ◌⊎◌, ◌∙◌, inl, inr, ℕ, Bool, true, false, List, [], ◌∷◌, length, refl, sym, ap, subst, arith}
+use Rattle.std.proofs.Common.{◌≡◌, ◌<◌, ◌⊎◌, ◌∙◌, inl, inr, ℕ, Bool, true, false, ◌||◌, List, [], ◌∷◌, length, refl, sym, ap, subst, arith}
 use Rattle.std.specs.Prelude.{◌==◌, if◌then◌else◌}
+use Rattle.std.proofs.lemmas.Bool.{and_parts, or_cases}
 use Rattle.std.proofs.lemmas.Bool.Decides.{eqb_tells}
 use Rattle.ap_defs.specs.Types.{NominalType, TypeShape, hole, unit, names, base, list}
 use Rattle.ap_defs.specs.Types as types
 use Rattle.ap_defs.specs.Typing as typing
 use Rattle.ap_defs.specs.Typing.{Want, one, arguments}
-use Rattle.ap_types.specs.Equations.{Filling}
+use Rattle.ap_types.specs.Equations.{ShapeEquation, ◌≐◌, Filling, FillingSolves, filled}
 use Rattle.ap_types.specs.Growing.{is_same}
 use Rattle.ap_types.proofs.GrowLemmas.{grown_at, grown_length, grown_fits, grown_formed, same_shapes}
 use Rattle.ap_kinds.specs.declared.kinds.IdentKind.{IdentKind}
 use Rattle.ap_kinds.specs.Systems.{EquationSystem, equate, with_name_hole, with_hole, shape_of_type}
-use Rattle.ap_kinds.specs.Gathering.{Wanting, whole, typed, nothing, more, cell, typed_cell, equate_unless, equate_others, meet, meet_unit, meet_swapped}
-use Rattle.ap_kinds.proofs.Assignments.{Assign, filling, closed, IsProper, Agree, closed_opened, proper_opened, bound_opened, names_snoc, names_bound_snoc}
+use Rattle.ap_kinds.specs.Gathering.{Wanting, whole, typed, nothing, more, cell, typed_cell, ends_between, equate_unless, equate_others, meet, meet_unit, meet_swapped}
+use Rattle.ap_kinds.proofs.Assignments.{Assign, filling, closed, closes, opened_injective, IsProper, Agree, closed_opened, proper_opened, bound_opened, names_snoc, names_bound_snoc}
 use Rattle.ap_kinds.proofs.Gathers.{Meets, IsMade, Grows, IsShapeOf, Suits, want_by, meets_same, Gathers, gathers_map, gathers_none, gathers_equate, gathers_refused}
 
 -- New holes.
@@ -68,10 +69,27 @@ hole_shape n x s l = record { bounded = omega arith; proper = λ f g. tt }
 pub opened_shape : (n : ℕ) (a : NominalType) (s : EquationSystem) → IsShapeOf n (shape_of_type a) s
 opened_shape n a s = record { bounded = bound_opened a s.next; proper = λ f g. proper_opened f a }
 
-gathers_unless : (n : ℕ) (idents : List IdentKind) (t u : TypeShape) (s : EquationSystem) (b : Bool) → is_same t u ≡ b → IsMade n idents s
+-- what the last equation says of two shapes
+last_solved : (f : Filling) (t u : TypeShape) (es : List ShapeEquation) → ends_between t u es ≡ true → FillingSolves f es → filled f t ≡ filled f u
+last_solved f t u [] e h = absurd (cc)
+last_solved f t u ((v ≐ w) ∷ []) e h =
+    let both = and_parts (is_same v t) (is_same w u) e in
+    ap (filled f) (sym (same_shapes v t both.0)) ∙ h.0 ∙ ap (filled f) (same_shapes w u both.1)
+last_solved f t u ((v ≐ w) ∷ (x ≐ y) ∷ es) e h = last_solved f t u ((x ≐ y) ∷ es) e h.1
+
+same_already : (n : ℕ) (t u : TypeShape) (s : EquationSystem) (φ : Assign) → (is_same t u || ends_between t u s.equations) ≡ true → IsShapeOf n t s → IsShapeOf n u s → Meets n φ s
+    → closed φ t ≡ closed φ u
+same_already n t u s φ e h k r = elim (or_cases (is_same t u) (ends_between t u s.equations) e) [
+  | inl d ↦ ap (closed φ) (same_shapes t u d)
+  | inr d ↦
+      opened_injective (closed φ t) (closed φ u)
+      (sym (closes φ t (h.proper (filling φ) r.1)) ∙ last_solved (filling φ) t u s.equations d r.0.1 ∙ closes φ u (k.proper (filling φ) r.1))
+]
+
+gathers_unless : (n : ℕ) (idents : List IdentKind) (t u : TypeShape) (s : EquationSystem) (b : Bool) → (is_same t u || ends_between t u s.equations) ≡ b → IsMade n idents s
     → IsShapeOf n t s → IsShapeOf n u s → Gathers n idents (λ φ. one (closed φ t) ≡ one (closed φ u)) s (equate_unless b t u s)
 gathers_unless n idents t u s true e m h k =
-    gathers_none n idents (λ φ. one (closed φ t) ≡ one (closed φ u)) s m (λ φ f r. ap (λ v. one (closed φ v)) (same_shapes t u e))
+    gathers_none n idents (λ φ. one (closed φ t) ≡ one (closed φ u)) s m (λ φ f r. ap one (same_already n t u s φ e h k r))
 gathers_unless n idents t u s false e m h k =
     gathers_map n idents (λ φ. closed φ t ≡ closed φ u) (λ φ. one (closed φ t) ≡ one (closed φ u)) s (equate t u s)
     (λ φ f r e. ap one e) (λ φ f r e. let d : ◌≡◌ {A = Want} (one (closed φ t)) (one (closed φ u)) = e in cc) (gathers_equate n idents t u s m h k)
@@ -79,7 +97,7 @@ gathers_unless n idents t u s false e m h k =
 -- the shapes become the same
 gathers_others : (n : ℕ) (idents : List IdentKind) (t u : TypeShape) (s : EquationSystem) → IsMade n idents s → IsShapeOf n t s → IsShapeOf n u s
     → Gathers n idents (λ φ. one (closed φ t) ≡ one (closed φ u)) s (equate_others t u s)
-gathers_others n idents t u s m h k = gathers_unless n idents t u s (is_same t u) refl m h k
+gathers_others n idents t u s m h k = gathers_unless n idents t u s (is_same t u || ends_between t u s.equations) refl m h k
 
 -- A term of a shape stands where something is wanted.
 pub gathers_meet : (n : ℕ) (idents : List IdentKind) (w : Wanting) (u : TypeShape) (s : EquationSystem) → IsMade n idents s → Suits n w s → IsShapeOf n u s

@@ -1,5 +1,5 @@
 -- The type equations of an item, gathered in one walk with the type that is wanted at each place.
-use Rattle.std.specs.Prelude.{ℕ, zero, suc, ◌+◌, Bool, true, false, List, [], ◌∷◌, map, if◌then◌else◌, Option, Some, None}
+use Rattle.std.specs.Prelude.{◌≡◌, ℕ, zero, suc, ◌+◌, Bool, true, false, ◌&&◌, ◌||◌, List, [], ◌∷◌, map, if◌then◌else◌, Option, Some, None}
 use Rattle.ap_defs.specs.declared.terms.Id.{Id}
 use Rattle.ap_defs.specs.declared.terms.Id.TheVariants as ids
 use Rattle.ap_defs.specs.RawTerms as raw
@@ -8,6 +8,7 @@ use Rattle.ap_defs.specs.Types.{NominalType, NominalConstructor, NominalSignatur
 use Rattle.ap_defs.specs.Types as types
 use Rattle.ap_defs.specs.Goals.{GoalOver, succeed, atom, equal, fresh, both, either, exists, new}
 use Rattle.ap_defs.specs.Printing.{constructor_in}
+use Rattle.ap_types.specs.Equations.{ShapeEquation, ◌≐◌}
 use Rattle.ap_types.specs.Growing.{is_same}
 use Rattle.ap_program.specs.Typed.{predicate_at}
 use Rattle.ap_kinds.specs.declared.kinds.IdentKind.{IdentKind}
@@ -45,9 +46,19 @@ abbrev pub equate_unless : Bool → TypeShape → TypeShape → EquationSystem �
 equate_unless true t u s = s
 equate_unless false t u s = equate t u s
 
--- the shapes become the same; that takes nothing where they are
+-- the equation is one of these two shapes, which have no parts
+abbrev pub is_between : TypeShape → TypeShape → ShapeEquation → Bool
+is_between t u (v ≐ w) = is_same v t && is_same w u
+
+-- the last equation is one of these two shapes
+abbrev pub ends_between : TypeShape → TypeShape → List ShapeEquation → Bool
+ends_between t u [] = false
+ends_between t u (e ∷ []) = is_between t u e
+ends_between t u (e ∷ f ∷ es) = ends_between t u (f ∷ es)
+
+-- the shapes become the same; that takes nothing where they are, or where the last equation that is left says it
 abbrev pub equate_others : TypeShape → TypeShape → EquationSystem → EquationSystem
-equate_others t u s = equate_unless (is_same t u) t u s
+equate_others t u s = equate_unless (is_same t u || ends_between t u s.equations) t u s
 
 -- a term of the shape stands where something is wanted
 abbrev pub meet : Wanting → TypeShape → EquationSystem → EquationSystem
@@ -164,6 +175,11 @@ abbrev pub inside_abstraction : ℕ → Wanting → EquationSystem → Inside
 inside_abstraction n (whole (abs l b)) s = record { want = whole b; system = equate l (hole n) s }
 inside_abstraction n (typed (types.abs k a)) s = record { want = typed a; system = equate (names k) (hole n) s }
 inside_abstraction n w s = new_body n w s
+
+-- a list cell of the constructor where the one is wanted: the other is wanted of its element, and the one again of its tail
+abbrev pub IsCellWanted : ℕ → Wanting → Wanting → Type 0
+IsCellWanted f w v =
+    (cs : List NominalConstructor) (s : EquationSystem) → sides (inside_application cs f w s).want (inside_application cs f w s).system ≡ record { left = v; right = w; system = s }
 
 abbrev pub gather_term : List NominalConstructor → List IdentKind → RawTerm → Wanting → EquationSystem → EquationSystem
 gather_term cs idents raw.unit w s = meet_unit w s

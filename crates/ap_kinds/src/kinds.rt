@@ -86,7 +86,7 @@ fn read_table(
         inhabitants,
     };
     let reads = read_holes(alloc, by, table, idents.len())?;
-    read_inhabited(alloc, idents, reads.as_slice())
+    read_inhabited(alloc, idents, reads)
 }
 
 /// The kinds of identifiers, by the solution of their system.

@@ -198,12 +198,13 @@ pub(crate) fn read_abs(
 }
 
 /// The kind of an identifier whose shape was read.
-pub(crate) fn kind_of_read(ident: IdentKind, read: &TypeRead) -> Result<Kind, Memory>
-    ensures { IfOk result (λ k. (n m : ℕ) (p : ℕ → Bool) (t : TypeShape) →
-        IsRead n m p t read.now → kind_of k ≡ read_kind ident t) }
+pub(crate) fn kind_of_read(ident: IdentKind, read: TypeRead) -> Kind
+    ensures { (n m : ℕ) (p : ℕ → Bool) (t : TypeShape) → IsRead n m p t read →
+        kind_of result ≡ read_kind ident t }
 {
+    let TypeRead { ty, .. } = read;
     match ident {
-        IdentKind::Name => Ok(Kind::Name(sort_in(&read.ty))),
-        IdentKind::Var => Ok(Kind::Var(copy_type(&read.ty)?)),
+        IdentKind::Name => Kind::Name(sort_in(&ty)),
+        IdentKind::Var => Kind::Var(ty),
     }
 }

@@ -70,15 +70,20 @@ fn are_inhabited(idents: &[IdentKind], reads: &[TypeRead]) -> bool
 }
 
 /// The kinds of identifiers whose shapes were read.
-fn read_kinds(alloc: Global, idents: &[IdentKind], reads: &[TypeRead]) -> Result<Vec<Kind>, Memory>
-    requires { length idents.now ≤ length reads.now }
+fn read_kinds(
+    alloc: Global,
+    idents: &[IdentKind],
+    reads: Vec<TypeRead>,
+) -> Result<Vec<Kind>, Memory>
+    requires { length reads.items ≡ length idents.now }
     ensures { IfOk result (λ ks. (by : Declared) (ts : list TypeShape) →
-        AreFirstRead by (length idents.now) ts reads.now →
+        AreFirstRead by (length idents.now) ts reads.items →
         map kind_of ks.items ≡ read_kinds ts 0 idents.now) }
 {
     let mut kinds = Vec::with_capacity(alloc, idents.len())?;
-    for (i, ident) in idents.iter().enumerate() {
-        let kind = kind_of_read(*ident, &reads[i])?;
+    for read in reads {
+        let i = kinds.len();
+        let kind = kind_of_read(idents[i], read);
         kinds.push(kind)?;
     }
     Ok(kinds)
@@ -88,26 +93,27 @@ fn read_kinds(alloc: Global, idents: &[IdentKind], reads: &[TypeRead]) -> Result
 pub(crate) fn read_inhabited(
     alloc: Global,
     idents: &[IdentKind],
-    reads: &[TypeRead],
+    reads: Vec<TypeRead>,
 ) -> Result<Vec<Kind>, KindsError>
-    requires { length reads.now ≡ length idents.now }
+    requires { length reads.items ≡ length idents.now }
     ensures read { IfOk result (λ ks. (by : Declared) (sig : NominalSignature)
-        (ts : list TypeShape) → IsDeclaredBy by sig → AreFirstRead by (length idents.now) ts reads.now →
+        (ts : list TypeShape) → IsDeclaredBy by sig → AreFirstRead by (length idents.now) ts reads.items →
         AreKindsRead sig idents.now ts (map kind_of ks.items)) }
     ensures inhabited { IfOk result (λ ks. (by : Declared) (sig : NominalSignature)
-        (ts : list TypeShape) → IsDeclaredBy by sig → AreFirstRead by (length idents.now) ts reads.now →
+        (ts : list TypeShape) → IsDeclaredBy by sig → AreFirstRead by (length idents.now) ts reads.items →
         AreInhabited sig.constructors (map kind_of ks.items)) }
     ensures unread { IfErr result (λ e. (by : Declared) (sig : NominalSignature)
-        (ts : list TypeShape) → IsDeclaredBy by sig → AreFirstRead by (length idents.now) ts reads.now →
+        (ts : list TypeShape) → IsDeclaredBy by sig → AreFirstRead by (length idents.now) ts reads.items →
         IsUnread e sig idents.now ts) }
 {
-    if !are_declared(reads) {
+    let seen = reads.as_slice();
+    if !are_declared(seen) {
         return Err(KindsError::Clash);
     }
-    if !are_closed(reads) {
+    if !are_closed(seen) {
         return Err(KindsError::Ambiguous);
     }
-    if !are_inhabited(idents, reads) {
+    if !are_inhabited(idents, seen) {
         return Err(KindsError::Empty);
     }
     let kinds = read_kinds(alloc, idents, reads)?;

@@ -1,6 +1,6 @@
 //! The types of the first holes, read off the table of a system. Each place of it is read once, behind its parts.
 
-ghost use Rattle.std.specs.Prelude.{◌≡◌, ◌<◌, ℕ, length, IfOk, IfSome};
+ghost use Rattle.std.specs.Prelude.{◌≡◌, ◌<◌, ℕ, length, min, IfOk, IfSome};
 ghost use Rattle.ap_types.specs.Solving.{shape_at};
 ghost use Rattle.ap_types.specs.Triangular.{shapes_of_nodes, value_of, assignment_of, IsSettledTable};
 ghost use Rattle.ap_types.specs.Walking.{IsPart, AreInOrder};
@@ -131,7 +131,7 @@ fn read_places(
     alloc: Global,
     by: Declared<'_>,
     nodes: &[Node],
-    order: &[usize],
+    order: &[u32],
 ) -> Result<Vec<TypeRead>, Memory>
     requires settled { IsSettledTable (shapes_of_nodes nodes.now) }
     requires order { AreInOrder (shapes_of_nodes nodes.now) order.now }
@@ -140,24 +140,33 @@ fn read_places(
     let mut reads = unread(alloc, nodes.len())?;
     let mut last = None;
     for i in 0..order.len() {
-        let x = order[i];
+        let x = order[i] as usize;
         let read = read_place(alloc, by, &mut last, nodes, reads.as_slice(), x)?;
         reads[x] = read;
     }
     Ok(reads)
 }
 
-/// What is read off a hole, by what was read off all places.
-fn read_hole(table: &Solved, reads: &[TypeRead], x: usize) -> Result<TypeRead, Memory>
-    ensures { IfOk result (λ r. (by : Declared) →
-        AreAllRead by (shapes_of_nodes table.now.nodes.items) reads.now →
-        IsReadBy by (shape_at (assignment_of table.now) x) r) }
+/// The lesser of two numbers.
+fn lesser(a: usize, b: usize) -> usize
+    ensures { result ≡ min a b }
 {
-    if x >= table.holes || x >= reads.len() {
-        return Ok(read_open());
+    if a < b { a } else { b }
+}
+
+/// What is read off the first holes, by what was read off all places, of which they are the first.
+fn first_reads(table: &Solved, all: Vec<TypeRead>, count: usize) -> Result<Vec<TypeRead>, Memory>
+    ensures { IfOk result (λ v. (by : Declared) →
+        AreAllRead by (shapes_of_nodes table.now.nodes.items) all.items →
+        AreFirstRead by count (assignment_of table.now) v.items) }
+{
+    let kept = lesser(table.holes, count);
+    let mut reads = all;
+    reads.truncate(kept);
+    'rest: while reads.len() < count {
+        reads.push(read_open())?;
     }
-    let read = read_of_place(reads, x);
-    copy_read(read)
+    Ok(reads)
 }
 
 /// What is read off the first holes.
@@ -175,10 +184,5 @@ pub(crate) fn read_holes(
         return Ok(reads);
     }
     let all = read_places(alloc, by, table.nodes.as_slice(), table.order.as_slice())?;
-    let mut reads = Vec::with_capacity(alloc, count)?;
-    for x in 0..count {
-        let read = read_hole(table, all.as_slice(), x)?;
-        reads.push(read)?;
-    }
-    Ok(reads)
+    first_reads(table, all, count)
 }

@@ -1,10 +1,10 @@
 //! The type equations of terms.
 
-ghost use Rattle.std.specs.Prelude.{◌≡◌, map, IfOk, OnOk};
-ghost use Rattle.ap_defs.specs.RawTerms.{raw_of};
+ghost use Rattle.std.specs.Prelude.{◌≡◌, map, IfOk, IfSome, OnOk};
+ghost use Rattle.ap_defs.specs.RawTerms.{raw_of, pair};
 ghost use Rattle.ap_defs.specs.Types.{shape_of, type_of, constructor_of};
 ghost use Rattle.ap_kinds.specs.Systems.{system_of};
-ghost use Rattle.ap_kinds.specs.Gathering.{wanting_of, whole, typed, new_sides, sides, meet_swapped, one_sort, name_place, inside_abstraction, gather_term};
+ghost use Rattle.ap_kinds.specs.Gathering.{wanting_of, whole, typed, new_sides, sides, meet_swapped, one_sort, name_place, inside_abstraction, gather_term, IsCellWanted};
 
 use crate::inside::{inside_abstraction, inside_application};
 use crate::kinds::IdentKind;
@@ -176,11 +176,46 @@ fn meet_swapping(
     meet_swapped(want, system)
 }
 
+/// The parts of a list cell, and what is wanted of its element.
+#[derive(Drop)]
+struct ListCell<'a, 't> {
+    element: Wanted<'a>,
+    left: &'t Raw,
+    right: &'t Raw,
+}
+
+/// The parts of a list cell where a list of the type of a hole is wanted, or of a type: the same is wanted of its tail.
+#[tactic(auto, using(crate::proofs::TakenLemmas::cell_of_hole, crate::proofs::TakenLemmas::cell_of_type))]
+fn list_cell<'a, 't>(f: u32, want: &Wanted<'a>, argument: &'t Raw) -> Option<ListCell<'a, 't>>
+    ensures parts { IfSome result (λ c. raw_of argument.now
+        ≡ pair (raw_of c.left.now) (raw_of c.right.now)) }
+    ensures wanted { IfSome result (λ c.
+        IsCellWanted f (wanting_of want.now) (wanting_of c.element)) }
+{
+    if f != 1 {
+        return None;
+    }
+    let Raw::Pair(left, right) = argument else {
+        return None;
+    };
+    let element = match want {
+        Wanted::ListOfHole(x) => Wanted::Whole(Shape::Hole(*x)),
+        Wanted::ListOf(t) => Wanted::Type(*t),
+        _ => return None,
+    };
+    Some(ListCell {
+        element,
+        left,
+        right,
+    })
+}
+
 /// The equations of a term, of which something is wanted.
 ///
 /// It goes on along the right part of a pair, the argument of a constructor, the body of an abstraction
 /// and what is swapped, and comes to itself on left parts of pairs alone.
 #[cycle(terms)]
+#[tactic(auto, using(crate::proofs::TakenLemmas::cell_gathered, crate::proofs::TakenLemmas::cell_smaller))]
 pub(crate) fn gather_term<'a>(
     alloc: Global,
     constructors: &'a [Constructor],
@@ -204,10 +239,21 @@ pub(crate) fn gather_term<'a>(
                 now = right_of_pair(alloc, constructors, idents, left, now, system)?;
                 rest = right;
             }
-            Raw::App(f, argument) => {
-                now = inside_application(alloc, constructors, *f, now, system)?;
-                rest = argument;
-            }
+            Raw::App(f, argument) => match list_cell(*f, &now, argument) {
+                Some(cell) => {
+                    let ListCell {
+                        element,
+                        left,
+                        right,
+                    } = cell;
+                    gather_term(alloc, constructors, idents, left, element, system)?;
+                    rest = right;
+                }
+                None => {
+                    now = inside_application(alloc, constructors, *f, now, system)?;
+                    rest = argument;
+                }
+            },
             Raw::Under(under) => match &**under {
                 Under::Abs(i, body) => {
                     now = inside_binder(alloc, idents, *i, now, system)?;

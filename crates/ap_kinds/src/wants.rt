@@ -1,10 +1,10 @@
 //! What is wanted of a term, and terms that stand there.
 
-ghost use Rattle.std.specs.Prelude.{◌≡◌, map, IfOk, OnOk};
+ghost use Rattle.std.specs.Prelude.{◌≡◌, ◌||◌, map, IfOk, OnOk};
 ghost use Rattle.ap_defs.specs.Types.{shape_of, type_of, hole, list};
 ghost use Rattle.ap_types.specs.Growing.{is_same};
 ghost use Rattle.ap_kinds.specs.Systems.{system_of, shape_of_type};
-ghost use Rattle.ap_kinds.specs.Gathering.{wanting_of, wanting_all, equate_others, meet, meet_unit, meet_swapped, meet_name, meet_var};
+ghost use Rattle.ap_kinds.specs.Gathering.{wanting_of, wanting_all, ends_between, equate_others, meet, meet_unit, meet_swapped, meet_name, meet_var};
 
 use crate::kinds::IdentKind;
 use crate::shapes::opened;
@@ -76,12 +76,33 @@ fn is_same(t: &Shape, u: &Shape) -> bool
     }
 }
 
-/// Two shapes become the same. If they have no parts, that takes no equation where they are the same.
+/// Whether the last equation that is left is one of two shapes, which have no parts.
+#[tactic(auto, using(crate::proofs::LastLemmas::ends_in_none))]
+fn ends_between(system: &System, t: &Shape, u: &Shape) -> bool
+    ensures { result
+        ≡ ends_between (shape_of t.now) (shape_of u.now) (system_of system.now).equations }
+{
+    match system.equations.as_slice().split_last() {
+        None => false,
+        Some((last, _)) => is_same(&last.0, t) && is_same(&last.1, u),
+    }
+}
+
+/// Whether two shapes are the same by themselves, or by the last equation that is left.
+fn are_same(system: &System, t: &Shape, u: &Shape) -> bool
+    ensures { result ≡ (is_same (shape_of t.now) (shape_of u.now)
+        || ends_between (shape_of t.now) (shape_of u.now) (system_of system.now).equations) }
+{
+    is_same(t, u) || ends_between(system, t, u)
+}
+
+/// Two shapes become the same. If they have no parts, that takes no equation where they are the same, or where the
+/// last equation that is left says it, as at each element of a long list of another type.
 fn equate_others(t: Shape, u: Shape, system: &mut System) -> Result<(), Memory>
     ensures { OnOk result (system_of system.new
         ≡ equate_others (shape_of t) (shape_of u) (system_of system.old)) }
 {
-    if is_same(&t, &u) {
+    if are_same(system, &t, &u) {
         Ok(())
     } else {
         equate(system, t, u)

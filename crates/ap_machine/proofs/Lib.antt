@@ -3,6 +3,7 @@ pub mod BroughtLemmas
 pub mod ChainLemmas
 pub mod ClosedLemmas
 pub mod GoalStackLemmas
+pub mod LookLemmas
 pub mod MachineLemmas
 pub mod OverLemmas
 pub mod SetLemmas

@@ -5,6 +5,7 @@ pub mod Chains
 pub mod Closed
 pub mod GoalStackProps
 pub mod GoalStacks
+pub mod Looks
 pub mod Machines
 pub mod Positions
 pub mod Stacks

@@ -6,12 +6,14 @@ ghost use Rattle.ap_defs.specs.Answers.{answer_of, kind_at, typed_var_of, typed_
 ghost use Rattle.ap_defs.specs.Terms.{term_of};
 ghost use Rattle.ap_defs.specs.Types.{locals_of};
 ghost use Rattle.ap_machine.specs.Brought.{vars_of_brought};
+ghost use Rattle.ap_machine.specs.Looks.{HasLooked};
 ghost use Rattle.ap_machine.specs.Unbound.{answer_by_unbound, vars_besides};
 ghost use Rattle.ap_machine.specs.Views.{state_in};
-ghost use Rattle.ap_store.specs.Views.{kinds};
+ghost use Rattle.ap_store.specs.Views.{kinds, versions};
 
 use crate::brought::Brought;
 use crate::chains::closed;
+use crate::looks::Look;
 use crate::renaming::vars_of_locals;
 use crate::unbound::unbound_of;
 use crate::vars::{add_vars, add_vars_of_conds, add_vars_of_terms, make_ascending};
@@ -75,21 +77,23 @@ fn typed_of(alloc: Global, store: &Store<'_>, vars: &[Var]) -> Result<Vec<(Var, 
 }
 
 /// The answer of a state that was found, to a query with these identifiers, where clauses and
-/// `exists` brought these variables.
+/// `exists` brought these variables, of which this was seen.
 pub fn answer_in(
     alloc: Global,
     locals: &[Local],
     store: &Store<'_>,
+    look: &Look,
     brought: &[Brought<'_>],
 ) -> Result<Answer, Memory>
-    requires { length locals.now < 2 ^ 64 }
+    requires few { length locals.now < 2 ^ 64 }
+    requires look { HasLooked (versions store.now) brought.now look.now }
     ensures { IfOk result (λ a. answer_of a
         ≡ answer_by_unbound (locals_of locals.now) (state_in store.now)
         (vars_of_brought brought.now)) }
 {
     let free = vars_of_locals(alloc, 0, locals)?;
     let binds = closed(alloc, store, &free)?;
-    let others = unbound_of(alloc, store, brought)?;
+    let others = unbound_of(alloc, store, look, brought)?;
     let conds = store.conds(alloc)?;
     let vars = vars_among(alloc, &binds, &conds, &others)?;
     let vars = typed_of(alloc, store, &vars)?;

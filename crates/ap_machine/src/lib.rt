@@ -3,6 +3,7 @@
 //! state in which no goal waits.
 #![tactic(auto)]
 
+mod along;
 pub mod answer_copies;
 pub mod answers;
 pub mod brought;
@@ -11,6 +12,7 @@ pub mod closing;
 pub mod frames;
 pub mod free_vars;
 pub mod goal_stack;
+pub mod looks;
 pub mod machine;
 mod moving;
 pub mod renaming;

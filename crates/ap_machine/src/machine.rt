@@ -2,12 +2,14 @@
 
 ghost use Rattle.ap_machine.specs.Below.{AreWaitingBelow};
 ghost use Rattle.ap_machine.specs.BelowProps.{waiting_prop};
+ghost use Rattle.ap_machine.specs.Looks.{HasLooked, look_prop};
 ghost use Rattle.ap_machine.specs.Stacks.{waiting_in};
-ghost use Rattle.ap_store.specs.Views.{present};
+ghost use Rattle.ap_store.specs.Views.{present, versions};
 
 use crate::brought::Brought;
 use crate::frames::Frame;
 use crate::goal_stack::GoalStack;
+use crate::looks::Look;
 use crate::saves::Save;
 use ap_defs::goals::{Goal, Local};
 use ap_defs::lists::List;
@@ -18,15 +20,19 @@ use ap_store::store::Store;
 use std::alloc::Global;
 
 /// The machine of a search: what is bound and holds; the goal stack; the choices on the way; and the
-/// variables that clauses and `exists` brought, in order and in ranges. The search goes on in place,
-/// and can go back to where it was at an earlier choice point. The memory of unification's work is kept
-/// from one to the next.
+/// variables that clauses and `exists` brought, in order and in ranges, with what was seen of them. The search
+/// goes on in place, and can go back to where it was at an earlier choice point. The memory of unification's
+/// work is kept from one to the next. It is `found` where a state was found since the variables were looked at.
 pub struct Machine<'a> {
     pub store: Store<'a>,
     pub goals: GoalStack<'a>,
     pub path: Vec<u32>,
     pub brought: Vec<Brought<'a>>,
+    pub look: Look,
+    found: bool,
+    alloc: Global,
     pub work: Work<'a>,
+    pub ghost seen: { HasLooked (versions store) brought.items look } by { look_prop (versions store) brought.items look },
     pub ghost below: { AreWaitingBelow (present store).next (waiting_in goals) } by { waiting_prop (present store).next (waiting_in goals) },
 }
 
@@ -38,6 +44,9 @@ impl Drop for Machine<'_> {
             goals: _goals,
             path: _path,
             brought: _brought,
+            look: _look,
+            found: _found,
+            alloc: _alloc,
             work: _work,
         } = self;
     }
@@ -64,6 +73,9 @@ impl<'a> Machine<'a> {
             goals: GoalStack::new(alloc),
             path: Vec::new(alloc),
             brought: Vec::new(alloc),
+            look: Look::new(alloc),
+            found: false,
+            alloc,
             work: Work::new(alloc),
         }
     }
@@ -126,7 +138,7 @@ impl<'a> Machine<'a> {
         Ok(())
     }
 
-    /// The first goal, which waits no longer.
+    /// The first goal, which waits no longer. Where none waits, a state was found.
     pub fn pop_goal(&mut self) -> Option<Frame<'a>>
         ensures some { IfSome result (λ f. (position_of self.old
             ≡ record (position_of self.new)
@@ -136,7 +148,13 @@ impl<'a> Machine<'a> {
             × (position_of self.new ≡ position_of self.old)) }
         ensures track { track_of self.new ≡ track_of self.old }
     {
-        self.goals.pop()
+        match self.goals.pop() {
+            Some(frame) => Some(frame),
+            None => {
+                self.found = true;
+                None
+            }
+        }
     }
 
     /// The choices on the way to where the search stands, which goes on no more.
@@ -148,6 +166,9 @@ impl<'a> Machine<'a> {
             goals: _goals,
             path,
             brought: _brought,
+            look: _look,
+            found: _found,
+            alloc: _alloc,
             work: _work,
         } = self;
         path
@@ -170,7 +191,7 @@ impl<'a> Machine<'a> {
     }
 
     /// Goes back to where the search had come. It takes no memory.
-    pub fn go_back(&mut self, save: Save)
+    fn undo(&mut self, save: Save)
         requires within { IsSaveWithin save (track_of self.old) }
         requires waiting { AreWaitingBelow (next_in (back_to save (track_of self.old))) (position_at
             (back_to save (track_of self.old)) save.first).waiting }
@@ -183,5 +204,38 @@ impl<'a> Machine<'a> {
         self.goals.back_to(save.cells, save.first);
         self.path.truncate(save.path);
         self.brought.truncate(save.brought);
+        self.look.go_back(save.mark.place, save.brought);
+    }
+
+    /// Looks again at the variables that were brought, if an answer looks at many. Where memory is wanting, nothing
+    /// more is seen.
+    #[cold]
+    fn look_again(&mut self)
+        ensures track { track_of self.new ≡ track_of self.old }
+        ensures position { position_of self.new ≡ position_of self.old }
+        ensures next { next_of self.new ≡ next_of self.old }
+    {
+        if self.look.is_long(self.brought.len()) {
+            if let Ok(look) = self.look.again(self.alloc, &self.store, &self.brought) {
+                self.look = look;
+                self.found = false;
+            }
+        }
+    }
+
+    /// Goes back to where the search had come.
+    pub fn go_back(&mut self, save: Save)
+        requires within { IsSaveWithin save (track_of self.old) }
+        requires waiting { AreWaitingBelow (next_in (back_to save (track_of self.old))) (position_at
+            (back_to save (track_of self.old)) save.first).waiting }
+        ensures track { track_of self.new ≡ back_to save (track_of self.old) }
+        ensures position { position_of self.new
+            ≡ position_at (back_to save (track_of self.old)) save.first }
+        ensures next { next_of self.new ≡ next_in (back_to save (track_of self.old)) }
+    {
+        self.undo(save);
+        if self.found {
+            self.look_again();
+        }
     }
 }

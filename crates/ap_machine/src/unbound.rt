@@ -3,13 +3,15 @@
 ghost use Rattle.std.specs.Prelude.{◌≡◌, ◌++◌, ◌+◌, ◌<◌, ◌^◌, not, IfOk, OnOk, length};
 ghost use Rattle.ap_defs.specs.Renaming.{local_vars};
 ghost use Rattle.ap_defs.specs.Types.{locals_of};
-ghost use Rattle.ap_store.specs.Views.{bindings_of};
+ghost use Rattle.ap_store.specs.Views.{bindings_of, versions};
 ghost use Rattle.ap_theory.specs.Variables.{is_bound};
 ghost use Rattle.ap_machine.specs.Brought.{vars_of_brought, vars_of_one};
+ghost use Rattle.ap_machine.specs.Looks.{HasLooked};
 ghost use Rattle.ap_machine.specs.Unbound.{unbound_vars};
 ghost use Rattle.ap_machine.specs.Views.{state_in};
 
 use crate::brought::Brought;
+use crate::looks::Look;
 use crate::renaming::is_free_var;
 use ap_defs::goals::Local;
 use ap_defs::memory::Memory;
@@ -79,20 +81,49 @@ fn add_unbound(all: &mut Vec<Var>, store: &Store<'_>, range: Brought<'_>) -> Res
     }
 }
 
-/// Those of the variables that were brought that stand for themselves. What the others stand for is not
-/// looked at.
+/// Those of variables that stand for themselves, after others.
+fn add_unbound_vars(all: &mut Vec<Var>, store: &Store<'_>, vars: &[Var]) -> Result<(), Memory>
+    ensures { OnOk result (all.new.items ≡ all.old.items
+        ++ unbound_vars (state_in store.now) vars.now) }
+{
+    'choosing: for x in vars {
+        if is_unbound(store, *x) {
+            all.push(*x)?;
+        }
+    }
+    Ok(())
+}
+
+/// Those of the variables of ranges that stand for themselves, after others.
 #[tactic(auto, using(crate::proofs::BroughtLemmas::unbound_more))]
+fn add_unbound_of(
+    all: &mut Vec<Var>,
+    store: &Store<'_>,
+    brought: &[Brought<'_>],
+) -> Result<(), Memory>
+    ensures { OnOk result (all.new.items ≡ all.old.items
+        ++ unbound_vars (state_in store.now) (vars_of_brought brought.now)) }
+{
+    'choosing: for range in brought {
+        add_unbound(all, store, *range)?;
+    }
+    Ok(())
+}
+
+/// Those of the variables that were brought that stand for themselves. What the others stand for is not
+/// looked at, and what was bound when some ranges were looked at not again.
 pub fn unbound_of(
     alloc: Global,
     store: &Store<'_>,
+    look: &Look,
     brought: &[Brought<'_>],
 ) -> Result<Vec<Var>, Memory>
+    requires { HasLooked (versions store.now) brought.now look.now }
     ensures { IfOk result (λ v. v.items
         ≡ unbound_vars (state_in store.now) (vars_of_brought brought.now)) }
 {
     let mut all = Vec::new(alloc);
-    'choosing: for range in brought {
-        add_unbound(&mut all, store, *range)?;
-    }
+    add_unbound_vars(&mut all, store, &look.unbound)?;
+    add_unbound_of(&mut all, store, &brought[look.looked..])?;
     Ok(all)
 }

@@ -1,5 +1,5 @@
 -- The least of several kinds.
-use Rattle.std.proofs.Common.{◌≡◌, Bool, true, false, Option, None, Some, refl, ap, arith}
+use Rattle.std.proofs.Common.{◌≡◌, Bool, true, false, Option, None, Some, refl, sym, ap, ◌∙◌, arith}
 use Rattle.std.proofs.lemmas.Bool.Decides.{nat_tests}
 use Rattle.std.specs.Prelude.{nat_le, if◌then◌else◌}
 use Rattle.ap_defs.specs.declared.faults.TypeKind.{TypeKind}
@@ -25,3 +25,7 @@ least_assoc (Some k) (Some m) (Some n) = ap (λ x. Some x) (lesser-assoc k m n)
 pub least_none : (a : Option TypeKind) → least_kind a None ≡ a
 least_none None = refl
 least_none (Some k) = refl
+
+-- the least of what was found and of a whole, a part of which is found too
+pub least_goes_on : (found part rest next whole all : Option TypeKind) → next ≡ least_kind found part → whole ≡ least_kind part rest → least_kind found whole ≡ all → least_kind next rest ≡ all
+least_goes_on found part rest next whole all h w e = ap (λ n. least_kind n rest) h ∙ least_assoc found part rest ∙ ap (least_kind found) (sym w) ∙ e

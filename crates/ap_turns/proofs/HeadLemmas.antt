@@ -122,7 +122,7 @@ module _ (s r d : Store) (ts : List NominalTerm) (c : NominalClause) (count : �
 -- A store f that went back to where s was.
 module _ (s d f : Store) (m : ℕ) (goes : IsPrefixOf (versions s) (versions d)) (more : (ks : List NominalKind) × (kinds d ≡ kinds s ++ ks))
     (mark : m ≡ length (past s)) (back : versions f ≡ take (m + 1) (versions d)) (left : kinds f ≡ take (present f).next (kinds d)) where
-  versions_back : versions f ≡ versions s
+  pub versions_back : versions f ≡ versions s
   versions_back =
       let l : length (versions s) ≡ m + 1 = omega (arith, length-append (past s) (present s ∷ []), mark) in
       back ∙ sym (prefix_is (versions s) (versions d) (m + 1) goes l)

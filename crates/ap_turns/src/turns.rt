@@ -208,7 +208,13 @@ pub fn found<'a>(alloc: Global, locals: &[Local], machine: &Machine<'a>) -> Resu
         ≡ found_at machine.now.path.items (answer_by_unbound (locals_of locals.now)
         (position_of machine.now).state (position_of machine.now).brought)) }
 {
-    let answer = answer_in(alloc, locals, &machine.store, &machine.brought)?;
+    let answer = answer_in(
+        alloc,
+        locals,
+        &machine.store,
+        &machine.look,
+        &machine.brought,
+    )?;
     Ok(End::Found(answer))
 }
 

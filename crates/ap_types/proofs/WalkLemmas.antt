@@ -150,22 +150,12 @@ length_marks (n ∷ ms) (suc x) m = ap suc (length_marks ms x m)
 left_not_new : (m : Mark) → is_left m ≡ true → is_unvisited m ≡ false
 left_not_new marks.New h = cc
 left_not_new marks.Entered h = refl
-left_not_new (marks.Left k) h = refl
+left_not_new marks.Left h = refl
 
 new_or_entered : (m : Mark) → is_left m ≡ false → is_unvisited m ≡ false → m ≡ marks.Entered
 new_or_entered marks.New h k = cc
 new_or_entered marks.Entered h k = refl
-new_or_entered (marks.Left j) h k = cc
-
-is_new_mark : (m : Mark) → is_unvisited m ≡ true → m ≡ marks.New
-is_new_mark marks.New h = refl
-is_new_mark marks.Entered h = cc
-is_new_mark (marks.Left k) h = cc
-
-pub left_mark : (m : Mark) → is_left m ≡ true → (k : ℕ) × (m ≡ marks.Left k)
-left_mark marks.New h = cc
-left_mark marks.Entered h = cc
-left_mark (marks.Left k) h = (k, refl)
+new_or_entered marks.Left h k = cc
 
 -- A step along a path.
 module _ (ts : List TypeShape) (ms : List Mark) (order : List ℕ) (front : List ℕ) (last : ℕ) (walk : IsWalk ts ms order (front ++ last ∷ [])) where
@@ -195,13 +185,13 @@ module _ (ts : List TypeShape) (ms : List Mark) (order : List ℕ) (front : List
   -- the last place is left, after its parts
   module _ (old : is_left (walk_mark_at ms last) ≡ false) (within : last < length ms) where
     abbrev pub after_leave : List Mark
-    after_leave = set ms last (marks.Left (length order))
+    after_leave = set ms last marks.Left
 
-    here : walk_mark_at after_leave last ≡ marks.Left (length order)
-    here = mark_same ms last (marks.Left (length order)) within
+    here : walk_mark_at after_leave last ≡ marks.Left
+    here = mark_same ms last marks.Left within
 
     there : (x : ℕ) → (x ≡ last → ⊥) → walk_mark_at after_leave x ≡ walk_mark_at ms x
-    there x d = mark_other ms last x (marks.Left (length order)) d
+    there x d = mark_other ms last x marks.Left d
 
     not_last : (x : ℕ) → is_left (walk_mark_at ms x) ≡ true → x ≡ last → ⊥
     not_last x e i = let j : is_left (walk_mark_at ms last) ≡ true = subst (λ y. is_left (walk_mark_at ms y) ≡ true) i e in cc
@@ -221,7 +211,7 @@ module _ (ts : List TypeShape) (ms : List Mark) (order : List ℕ) (front : List
         let c = count_less (λ x. is_left (walk_mark_at ms x)) (λ x. is_left (walk_mark_at after_leave x)) (length ms) (λ x l e. stay_left x e) last within old (ap is_left here) in
         let k = walk.counted in
         let long = length-append order (last ∷ []) in
-        rw (length_marks ms last (marks.Left (length order))) (omega arith)
+        rw (length_marks ms last marks.Left) (omega arith)
 
     new_before : (x : ℕ) → is_unvisited (walk_mark_at after_leave x) ≡ true → is_unvisited (walk_mark_at ms x) ≡ true
     new_before x e =
@@ -236,42 +226,49 @@ module _ (ts : List TypeShape) (ms : List Mark) (order : List ℕ) (front : List
     no_more_new : new_count after_leave ≤ new_count ms
     unfolding new_count
     no_more_new =
-        rw (length_marks ms last (marks.Left (length order))) (count_grows (λ x. is_unvisited (walk_mark_at after_leave x)) (λ x. is_unvisited (walk_mark_at ms x)) (length ms) (λ x l e. new_before x e))
-
-    same_left : (j k : ℕ) → ◌≡◌ {A = Mark} (marks.Left j) (marks.Left k) → j ≡ k
-    same_left j k e = cc
+        rw (length_marks ms last marks.Left) (count_grows (λ x. is_unvisited (walk_mark_at after_leave x)) (λ x. is_unvisited (walk_mark_at ms x)) (length ms) (λ x l e. new_before x e))
 
     below_or_last : (k n : ℕ) → k < n + 1 → (k < n) ⊎ (k ≡ n)
     below_or_last k n l = grind arith
 
-    marked_more : (k : ℕ) → k < length (order ++ last ∷ []) → walk_mark_at after_leave (get_or (order ++ last ∷ []) k 0) ≡ marks.Left k
+    marked_more : (k : ℕ) → k < length (order ++ last ∷ []) → is_left (walk_mark_at after_leave (get_or (order ++ last ∷ []) k 0)) ≡ true
     marked_more k b =
         let long = length-append order (last ∷ []) in
         elim (below_or_last k (length order) (omega arith)) [
-          | inl a ↦
-              let y = get_or order k 0 in
-              ap (walk_mark_at after_leave) (get_or_append_left order (last ∷ []) 0 k a) ∙ there y (not_last y (ap is_left (walk.marked k a))) ∙ walk.marked k a
-          | inr e ↦ ap (walk_mark_at after_leave) (get_or_push order last 0 k (sym e)) ∙ here ∙ ap marks.Left (sym e)
+          | inl a ↦ ap (λ y. is_left (walk_mark_at after_leave y)) (get_or_append_left order (last ∷ []) 0 k a) ∙ stay_left (get_or order k 0) (walk.marked k a)
+          | inr e ↦ ap (λ y. is_left (walk_mark_at after_leave y)) (get_or_push order last 0 k (sym e)) ∙ ap is_left here
         ]
 
-    placed_more : (x k : ℕ) → walk_mark_at after_leave x ≡ marks.Left k → (k < length (order ++ last ∷ [])) × (get_or (order ++ last ∷ []) k 0 ≡ x)
-    placed_more x k e =
+    placed_more : (x : ℕ) → is_left (walk_mark_at after_leave x) ≡ true → (k : ℕ) × (k < length (order ++ last ∷ [])) × (get_or (order ++ last ∷ []) k 0 ≡ x)
+    placed_more x e =
         let long = length-append order (last ∷ []) in
         elim (equal_or_not x last) [
-          | inl i ↦
-              let j : walk_mark_at after_leave last ≡ marks.Left k = subst (λ y. walk_mark_at after_leave y ≡ marks.Left k) i e in
-              let m = same_left (length order) k (sym here ∙ j) in
-              (omega arith, get_or_push order last 0 k m ∙ sym i)
+          | inl i ↦ (length order, omega arith, get_or_push order last 0 (length order) refl ∙ sym i)
           | inr d ↦
-              let p = walk.placed x k (sym (there x d) ∙ e) in
-              let b = p.0 in
-              (omega arith, get_or_append_left order (last ∷ []) 0 k b ∙ p.1)
+              let p = walk.placed x (ap is_left (sym (there x d)) ∙ e) in
+              let b = p.1 in
+              (p.0, omega arith, get_or_append_left order (last ∷ []) 0 p.0 b ∙ p.2)
+        ]
+
+    ordered_more : ((c : ℕ) → IsPart ts last c → is_left (walk_mark_at ms c) ≡ true) → (k c : ℕ) → k < length (order ++ last ∷ []) → IsPart ts (get_or (order ++ last ∷ []) k 0) c
+        → (j : ℕ) × (j < k) × (get_or (order ++ last ∷ []) j 0 ≡ c)
+    ordered_more parts k c l p =
+        let long = length-append order (last ∷ []) in
+        elim (below_or_last k (length order) (omega arith)) [
+          | inl a ↦
+              let o = walk.ordered k c a (subst (λ y. IsPart ts y c) (get_or_append_left order (last ∷ []) 0 k a) p) in
+              let b = o.1 in
+              (o.0, o.1, get_or_append_left order (last ∷ []) 0 o.0 (omega (arith, a, b)) ∙ o.2)
+          | inr e ↦
+              let o = walk.placed c (parts c (subst (λ y. IsPart ts y c) (get_or_push order last 0 k (sym e)) p)) in
+              let b = o.1 in
+              (o.0, omega (arith, b, e), get_or_append_left order (last ∷ []) 0 o.0 b ∙ o.2)
         ]
 
     pub passes_back : ((c : ℕ) → IsPart ts last c → is_left (walk_mark_at ms c) ≡ true) → PassesAlong ts ms (front ++ last ∷ []) after_leave (order ++ last ∷ []) front
     passes_back parts = record {
       walk = record {
-        as_long = length_marks ms last (marks.Left (length order)) ∙ walk.as_long;
+        as_long = length_marks ms last marks.Left ∙ walk.as_long;
         within = (below_front (length ts) front last walk.within).0;
         is_path = path_front ts front last walk.is_path;
         entered = λ x e. elim (equal_or_not x last) [
@@ -280,18 +277,7 @@ module _ (ts : List TypeShape) (ms : List Mark) (order : List ℕ) (front : List
         ];
         marked = marked_more;
         placed = placed_more;
-        ordered = λ x k c e p. elim (equal_or_not x last) [
-          | inl i ↦
-              let j : walk_mark_at after_leave last ≡ marks.Left k = subst (λ y. walk_mark_at after_leave y ≡ marks.Left k) i e in
-              let m = same_left (length order) k (sym here ∙ j) in
-              let q = parts c (subst (λ y. IsPart ts y c) i p) in
-              let o = left_mark (walk_mark_at ms c) q in
-              let b = (walk.placed c o.0 o.1).0 in
-              (o.0, there c (not_last c q) ∙ o.1, omega arith)
-          | inr d ↦
-              let o = walk.ordered x k c (sym (there x d) ∙ e) p in
-              (o.0, there c (not_last c (ap is_left o.1)) ∙ o.1, o.2)
-        ];
+        ordered = ordered_more parts;
         counted = counted_more;
       };
       stay = stay_left;
@@ -351,17 +337,15 @@ module _ (ts : List TypeShape) (ms : List Mark) (order : List ℕ) (front : List
           | inl i ↦ subst (λ y. Stands y ((front ++ last ∷ []) ++ c ∷ [])) (sym i) (stands_last c (front ++ last ∷ []))
           | inr d ↦ stands_more x c (front ++ last ∷ []) (walk.entered x (sym (elsewhere x d) ∙ e))
         ];
-        marked = λ k b. let y = get_or order k 0 in elsewhere y (not_part y (ap is_left (walk.marked k b))) ∙ walk.marked k b;
-        placed = λ x k e. elim (equal_or_not x c) [
-          | inl i ↦ let j : walk_mark_at after_enter c ≡ marks.Left k = subst (λ y. walk_mark_at after_enter y ≡ marks.Left k) i e in let h = in_part in cc
-          | inr d ↦ walk.placed x k (sym (elsewhere x d) ∙ e)
+        marked = λ k b. stays (get_or order k 0) (walk.marked k b);
+        placed = λ x e. elim (equal_or_not x c) [
+          | inl i ↦
+              let j : is_left (walk_mark_at after_enter c) ≡ true = subst (λ y. is_left (walk_mark_at after_enter y) ≡ true) i e in
+              let h : is_left (walk_mark_at after_enter c) ≡ false = ap is_left in_part in
+              cc
+          | inr d ↦ walk.placed x (ap is_left (sym (elsewhere x d)) ∙ e)
         ];
-        ordered = λ x k d e p. elim (equal_or_not x c) [
-          | inl i ↦ let j : walk_mark_at after_enter c ≡ marks.Left k = subst (λ y. walk_mark_at after_enter y ≡ marks.Left k) i e in let h = in_part in cc
-          | inr n ↦
-              let o = walk.ordered x k d (sym (elsewhere x n) ∙ e) p in
-              (o.0, elsewhere d (not_part d (ap is_left o.1)) ∙ o.1, o.2)
-        ];
+        ordered = walk.ordered;
         counted = counted_still;
       };
       stay = stays;
@@ -414,12 +398,12 @@ pub left_already : (ts : List TypeShape) (ms : List Mark) (order : List ℕ) (st
 left_already ts ms order start w e = record { walk = w; stay = λ x h. h; here = e }
 
 pub leaves_at_once : (ts : List TypeShape) (ms ns : List Mark) (order order' : List ℕ) (start : ℕ) → IsWalk ts ms order [] → start < length ts → is_left (walk_mark_at ms start) ≡ false
-    → ((c : ℕ) → IsPart ts start c → is_left (walk_mark_at ms c) ≡ true) → ns ≡ set ms start (marks.Left (length order)) → order' ≡ order ++ start ∷ [] → HasLeft ts ms start ns order'
+    → ((c : ℕ) → IsPart ts start c → is_left (walk_mark_at ms c) ≡ true) → ns ≡ set ms start marks.Left → order' ≡ order ++ start ∷ [] → HasLeft ts ms start ns order'
 leaves_at_once ts ms ns order order' start w l e parts f g =
     let first = explores_first ts ms order start w l in
     let long = w.as_long in
     let step = passes_back ts ms order [] start first.walk e (omega (arith, l, long)) parts in
-    let now = set ms start (marks.Left (length order)) in
+    let now = set ms start marks.Left in
     let last = explores_end ts ms now start (order ++ start ∷ []) (explores_on ts ms ms now start order (order ++ start ∷ []) (start ∷ []) [] first step) in
     subst (λ (xs : List Mark). HasLeft ts ms start xs order') (sym f) (subst (λ (os : List ℕ). HasLeft ts ms start now os) (sym g) last)
 
@@ -437,8 +421,8 @@ walk_begins ts ms e =
       is_path = tt;
       entered = λ x h. let f = fresh x in cc;
       marked = λ k h. absurd (omega (arith, h));
-      placed = λ x k h. let f = fresh x in cc;
-      ordered = λ x k c h p. let f = fresh x in cc;
+      placed = λ x h. let f : is_left (walk_mark_at ms x) ≡ false = ap is_left (fresh x) in cc;
+      ordered = λ k c h p. absurd (omega (arith, h));
       counted = omega arith;
     }
 
@@ -456,15 +440,16 @@ pub read_open : (ts : List TypeShape) (m x : ℕ) → shape_at ts x ≡ hole x �
 read_open ts zero x e = refl
 read_open ts (suc m) x e = ap (filled (read ts m)) e ∙ read_open ts m x e
 
-read_settles : (ts : List TypeShape) (ms : List Mark) (order : List ℕ) → IsWalk ts ms order [] → (m x k : ℕ) → walk_mark_at ms x ≡ marks.Left k → k < m → read ts m x ≡ read ts (suc m) x
-read_settles ts ms order w zero x k e l = absurd (omega arith)
-read_settles ts ms order w (suc m) x k e l =
+read_settles : (ts : List TypeShape) (ms : List Mark) (order : List ℕ) → IsWalk ts ms order [] → (m k : ℕ) → k < length order → k < m → read ts m (get_or order k 0) ≡ read ts (suc m) (get_or order k 0)
+read_settles ts ms order w zero k b l = absurd (omega arith)
+read_settles ts ms order w (suc m) k b l =
+    let x = get_or order k 0 in
     elim (open_or_parts x (shape_at ts x)) [
       | inl o ↦ read_open ts (suc m) x o ∙ sym (read_open ts (suc (suc m)) x o)
       | inr p ↦ filled_same (read ts m) (read ts (suc m)) (shape_at ts x) (λ c o.
-          let r = w.ordered x k c e (p c o) in
-          let j = r.2 in
-          read_settles ts ms order w m c r.0 r.1 (omega arith))
+          let r = w.ordered k c b (p c o) in
+          let j = r.1 in
+          subst (λ y. read ts m y ≡ read ts (suc m) y) r.2 (read_settles ts ms order w m r.0 (omega (arith, b, j)) (omega (arith, l, j))))
     ]
 
 pub walk_settles : (ts : List TypeShape) (ms : List Mark) (order : List ℕ) → AreFormed ts → IsWalk ts ms order [] → ((x : ℕ) → x < length ts → is_left (walk_mark_at ms x) ≡ true) → IsSettledTable ts
@@ -472,12 +457,12 @@ walk_settles ts ms order h w a = record {
   formed = h;
   fits = λ x. elim (below_or_past x (length ts)) [
     | inl l ↦
-        let k = left_mark (walk_mark_at ms x) (a x l) in
-        let b = (w.placed x k.0 k.1).0 in
+        let k = w.placed x (a x l) in
+        let b = k.1 in
         let c = w.counted in
         let d = count_most (λ y. is_left (walk_mark_at ms y)) (length ms) in
         let e = w.as_long in
-        read_settles ts ms order w (length ts) x k.0 k.1 (omega arith)
+        subst (λ y. read ts (length ts) y ≡ read ts (suc (length ts)) y) k.2 (read_settles ts ms order w (length ts) k.0 b (omega (arith, b, c, d, e)))
     | inr l ↦ sym (ap (filled (value_of ts)) (at_past ts x l))
   ];
 }

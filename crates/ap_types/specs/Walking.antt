@@ -20,7 +20,7 @@ abbrev pub walk_mark_at : List Mark → ℕ → Mark
 walk_mark_at ms x = slice_index_or ms x marks.New
 
 abbrev pub is_left : Mark → Bool
-is_left (marks.Left k) = true
+is_left marks.Left = true
 is_left _ = false
 
 abbrev pub is_unvisited : Mark → Bool
@@ -41,16 +41,15 @@ abbrev pub ArePlacesBelow : ℕ → List ℕ → Type 0
 ArePlacesBelow n [] = Unit {0}
 ArePlacesBelow n (x ∷ xs) = (x < n) × ArePlacesBelow n xs
 
--- Parts were left before what they are parts of, and what was entered and not left stands on the path. The places that were left
--- stand in the order in which they were.
+-- What was entered and not left stands on the path. The places that were left stand in the order in which they were, each behind its parts.
 pub record IsWalk (ts : List TypeShape) (ms : List Mark) (order : List ℕ) (path : List ℕ) : Type 0 where
   pub as_long : length ms ≡ length ts
   pub within : ArePlacesBelow (length ts) path
   pub is_path : IsPath ts path
   pub entered : (x : ℕ) → walk_mark_at ms x ≡ marks.Entered → Stands x path
-  pub marked : (k : ℕ) → k < length order → walk_mark_at ms (slice_index_or order k 0) ≡ marks.Left k
-  pub placed : (x k : ℕ) → walk_mark_at ms x ≡ marks.Left k → (k < length order) × (slice_index_or order k 0 ≡ x)
-  pub ordered : (x k c : ℕ) → walk_mark_at ms x ≡ marks.Left k → IsPart ts x c → (j : ℕ) × (walk_mark_at ms c ≡ marks.Left j) × (j < k)
+  pub marked : (k : ℕ) → k < length order → is_left (walk_mark_at ms (slice_index_or order k 0)) ≡ true
+  pub placed : (x : ℕ) → is_left (walk_mark_at ms x) ≡ true → (k : ℕ) × (k < length order) × (slice_index_or order k 0 ≡ x)
+  pub ordered : (k c : ℕ) → k < length order → IsPart ts (slice_index_or order k 0) c → (j : ℕ) × (j < k) × (slice_index_or order j 0 ≡ c)
   pub counted : length order ≤ count_below (λ x. is_left (walk_mark_at ms x)) (length ms)
 
 -- Each place of the table stands in the order, behind its parts.

@@ -126,7 +126,7 @@ fn load_system(
 }
 
 /// The table in which the pairs of places have become alike, and its places, each behind its parts.
-fn settled(alloc: Global, loaded: Loaded) -> Result<(Vec<Node>, Vec<usize>), TypesError>
+fn settled(alloc: Global, loaded: Loaded) -> Result<(Vec<Node>, Vec<u32>), TypesError>
     requires formed { AreFormed (shapes_of_nodes loaded.nodes.items) }
     requires within { ArePairsWithin (length loaded.nodes.items) loaded.pairs.items }
     ensures ok { IfOk result (λ r. Settles (shapes_of_nodes loaded.nodes.items) loaded.pairs.items

@@ -14,7 +14,7 @@ use crate::nodes::Node;
 #[derive(Drop)]
 pub struct Solved {
     pub nodes: Vec<Node>,
-    pub order: Vec<usize>,
+    pub order: Vec<u32>,
     pub holes: usize,
 }
 

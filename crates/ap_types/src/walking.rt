@@ -9,12 +9,12 @@ use crate::nodes::Node;
 use ap_defs::memory::Memory;
 use std::alloc::Global;
 
-/// Whether a walk has not come to a place, has entered it, or has left it as one of a number.
+/// Whether a walk has not come to a place, has entered it, or has left it.
 #[derive(Clone, Copy)]
 pub(crate) enum Mark {
     New,
     Entered,
-    Left(usize),
+    Left,
 }
 
 /// The marks of places, those that were left in the order in which they were, and the path to the place where
@@ -22,7 +22,7 @@ pub(crate) enum Mark {
 #[derive(Drop)]
 struct Walk {
     marks: Vec<Mark>,
-    order: Vec<usize>,
+    order: Vec<u32>,
     path: Vec<usize>,
 }
 
@@ -30,7 +30,7 @@ struct Walk {
 fn is_left(marks: &[Mark], x: usize) -> bool
     ensures { result ≡ is_left (walk_mark_at marks.now x) }
 {
-    x < marks.len() && matches!(marks[x], Mark::Left(_))
+    x < marks.len() && matches!(marks[x], Mark::Left)
 }
 
 /// Whether a place is new.
@@ -82,17 +82,19 @@ fn enter(walk: &mut Walk, x: usize) -> Result<(), Memory>
     Ok(())
 }
 
-/// Leaves a place.
+/// Leaves a place. A place whose number is above the greatest `u32` counts as want of memory.
 fn leave(walk: &mut Walk, x: usize) -> Result<(), Memory>
     requires { x < length walk.old.marks.items }
     ensures marks { OnOk result (walk.new.marks.items
-        ≡ slice_set walk.old.marks.items x (Mark.Left (length walk.old.order.items))) }
+        ≡ slice_set walk.old.marks.items x Mark.Left) }
     ensures order { OnOk result (walk.new.order.items ≡ walk.old.order.items ++ x ∷ []) }
     ensures path { OnOk result (walk.new.path.items ≡ walk.old.path.items) }
 {
-    let count = walk.order.len();
-    walk.marks[x] = Mark::Left(count);
-    walk.order.push(x)?;
+    let Ok(place) = u32::try_from(x) else {
+        return Err(Memory);
+    };
+    walk.marks[x] = Mark::Left;
+    walk.order.push(place)?;
     Ok(())
 }
 
@@ -172,7 +174,7 @@ fn explore(nodes: &[Node], walk: &mut Walk, start: usize) -> Result<(), TypesErr
 }
 
 /// All places, each behind its parts. Refuses a table in which a place stands within itself.
-pub(crate) fn in_order(alloc: Global, nodes: &[Node]) -> Result<Vec<usize>, TypesError>
+pub(crate) fn in_order(alloc: Global, nodes: &[Node]) -> Result<Vec<u32>, TypesError>
     requires { AreFormed (shapes_of_nodes nodes.now) }
     ensures ok { IfOk result (λ v. IsSettledTable (shapes_of_nodes nodes.now)) }
     ensures order { IfOk result (λ v. AreInOrder (shapes_of_nodes nodes.now) v.items) }

@@ -1,5 +1,5 @@
 -- Equations of two suspensions that are solved, or are being solved.
-use Rattle.std.specs.Prelude.{ℕ, List, [], ◌∷◌}
+use Rattle.std.specs.Prelude.{◌≡◌, ◌⊎◌, ◌<◌, ℕ, List, [], ◌∷◌, ◌++◌, length, slice_set}
 use Rattle.ap_defs.specs.Substitution.{Equation, ◌≐◌}
 use Rattle.ap_defs.specs.Terms.{act_term, susp}
 use Rattle.ap_defs.specs.Unification.{Progress, Stage, done, failed, next}
@@ -23,6 +23,10 @@ suspensions_equation e = susp [] e.x ≐ act_term e.swaps.items (susp [] e.y)
 abbrev pub AllKnown : Stage → List Suspensions → Type 0
 AllKnown r [] = Unit {0}
 AllKnown r (e ∷ es) = IsSolvedIn r (suspensions_equation e) × AllKnown r es
+
+-- suspensions stand behind others, or in the place of one of them
+abbrev pub IsLearnt : Suspensions → List Suspensions → List Suspensions → Type 0
+IsLearnt e es fs = (fs ≡ es ++ e ∷ []) ⊎ ((i : ℕ) × ((i < length es) × (fs ≡ slice_set es i e)))
 
 abbrev pub IsAwaited : Stage → Awaited → Type 0
 IsAwaited r a = IsSolvedBefore r a.behind (suspensions_equation a.pair)

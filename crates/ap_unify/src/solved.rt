@@ -1,12 +1,12 @@
 //! Equations of two suspensions that were solved in this run, so that nothing is left of them.
 
-ghost use Rattle.std.specs.Prelude.{◌≡◌, ◌≤◌, ◌∷◌, ◌++◌, [], true, IfOk, OnOk, length};
+ghost use Rattle.std.specs.Prelude.{◌≡◌, ◌<◌, ◌≤◌, ◌∷◌, ◌++◌, [], true, IfOk, OnOk, length, slice_set};
 ghost use Rattle.ap_defs.specs.Freshness.{var_eq};
 ghost use Rattle.ap_defs.specs.Substitution.{◌≐◌};
 ghost use Rattle.ap_defs.specs.Terms.{act_term, susp};
 ghost use Rattle.ap_defs.specs.Unification.{Stage};
 ghost use Rattle.ap_unify.specs.Moved.{moved_equation, waiting};
-ghost use Rattle.ap_unify.specs.Solved.{AllKnown, AreSolved, IsSolvedIn, IsSolvedBefore, suspensions_equation};
+ghost use Rattle.ap_unify.specs.Solved.{AllKnown, AreSolved, IsLearnt, IsSolvedIn, IsSolvedBefore, suspensions_equation};
 
 use crate::settled::variable_of;
 use crate::sides::{Sides, between};
@@ -34,10 +34,12 @@ pub struct Awaited {
     pub behind: usize,
 }
 
-/// Suspensions whose equations are solved, the place of the last ones of two variables among them, those whose equations
-/// are being solved, and how many equations were met that were not known.
+/// Suspensions whose equations are solved, the last ones of each two variables, with the places where they stand; those
+/// whose equations are being solved; and how many equations were met that were not known. Where nothing is noted, none is
+/// known.
 #[derive(Drop)]
 pub struct Solved {
+    pub is_noting: bool,
     pub known: Vec<Suspensions>,
     pub places: BTreeMap<(u64, u64), usize>,
     pub awaited: Vec<Awaited>,
@@ -53,6 +55,20 @@ impl Solved {
         ensures { (r : Stage) → AreSolved r result }
     {
         Solved {
+            is_noting: true,
+            known: Vec::new(alloc),
+            places: BTreeMap::new(alloc),
+            awaited: Vec::new(alloc),
+            met: 0,
+        }
+    }
+
+    /// Nothing is known, and nothing will be noted. It takes no memory.
+    pub fn without_notes(alloc: Global) -> Solved
+        ensures { (r : Stage) → AreSolved r result }
+    {
+        Solved {
+            is_noting: false,
             known: Vec::new(alloc),
             places: BTreeMap::new(alloc),
             awaited: Vec::new(alloc),
@@ -125,8 +141,24 @@ fn is_known(alloc: Global, solved: &Solved, sides: &Sides, x: Var, y: Var) -> Re
     }
 }
 
-/// Keeps two suspensions whose equation is solved.
-fn learn(solved: &mut Solved, pair: Suspensions) -> Result<(), Memory>
+/// The place where suspensions of two variables stand, or the next one where there are none.
+fn place_of(solved: &Solved, variables: (u64, u64)) -> usize {
+    match solved.places.get(&variables) {
+        Some(place) => *place,
+        None => solved.known.len(),
+    }
+}
+
+/// Puts suspensions in the place of others.
+fn put_in_place(known: &mut Vec<Suspensions>, place: usize, pair: Suspensions)
+    requires { place < length known.old.items }
+    ensures { known.new.items ≡ slice_set known.old.items place pair }
+{
+    known[place] = pair;
+}
+
+/// Puts suspensions behind the others.
+fn put_behind(solved: &mut Solved, pair: Suspensions) -> Result<(), Memory>
     ensures known { OnOk result (solved.new.known.items ≡ solved.old.known.items ++ pair ∷ []) }
     ensures awaited { solved.new.awaited.items ≡ solved.old.awaited.items }
 {
@@ -135,6 +167,19 @@ fn learn(solved: &mut Solved, pair: Suspensions) -> Result<(), Memory>
     solved.known.push(pair)?;
     solved.places.insert(variables, place)?;
     Ok(())
+}
+
+/// Keeps two suspensions whose equation is solved, in place of those of the same variables.
+fn learn(solved: &mut Solved, pair: Suspensions) -> Result<(), Memory>
+    ensures known { OnOk result (IsLearnt pair solved.old.known.items solved.new.known.items) }
+    ensures awaited { solved.new.awaited.items ≡ solved.old.awaited.items }
+{
+    let place = place_of(solved, (pair.x.num, pair.y.num));
+    if place < solved.known.len() {
+        put_in_place(&mut solved.known, place, pair);
+        return Ok(());
+    }
+    put_behind(solved, pair)
 }
 
 /// Keeps those as solved whose equations are, where so many are left.
@@ -220,6 +265,9 @@ pub fn is_solved(
     ensures solved { OnOk result ((r : Stage) → AreSolved r solved.old →
         IsSolvedBefore r behind (moved_equation sides.now pair.entry) → AreSolved r solved.new) }
 {
+    if !solved.is_noting {
+        return Ok(false);
+    }
     match (variable_of(pair.left), variable_of(pair.right)) {
         (Some(x), Some(y)) => is_solved_for(alloc, solved, sides, x, y, behind),
         _ => Ok(false),

@@ -63,7 +63,7 @@ fn by_closures<'a>(
 {
     let left = store.shortened(pair.left.closure(alloc))?;
     let right = store.shortened(pair.right.closure(alloc))?;
-    let mut solved = Solved::new(alloc);
+    let mut solved = Solved::without_notes(alloc);
     along_closures(alloc, store, work, &mut solved, ClosurePair { left, right })
 }
 

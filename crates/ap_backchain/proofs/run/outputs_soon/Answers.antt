@@ -70,7 +70,7 @@ returns-then-is_wide-clause-many c =
     let p = position_of c.searching.machine in
     let ps = pending_positions c.searching.machine c.searching.points in
     let some = turn_lessens program locals (kept_out c.args.paths) p ps (positions_followed (turned program locals p) ps) refl in
-    let made = c.is_wide.ensures c.if-is_wide.true in
+    let made = c.is_wide.ensures.few c.if-is_wide.true in
     let count = c.searching.invariant.count in
     omega (arith, some, made, count)
 

@@ -1,12 +1,15 @@
 use Rattle.std.proofs.Common.{◌≡◌, ◌≤◌, sym, ap, ◌∙◌, arith}
+use Rattle.std.proofs.lemmas.Result.{IfOk-weaker}
 use Rattle.ap_defs.specs.Goals.{goal_over, both, either}
 use Rattle.ap_defs.specs.RawTerms.{raw_of}
+use Rattle.ap_spines.specs.Spines.{raw_goal_within}
 use Rattle.ap_trees.specs.declared.trees.GoalTree.{GoalTree}
 use Rattle.ap_trees.specs.Goals as goals
 use Rattle.ap_trees.specs.Trees.{goal_of_tree}
 use Rattle.ap_scopes.specs.Resolution.{resolved_goal}
 use Rattle.ap_scopes.specs.Views.{declared_of, scope_of, found_of}
 use Rattle.ap_scopes.proofs.LayerLemmas.{then_is, goal_goes_in}
+use Rattle.ap_scopes.proofs.Orders.{within_is}
 use Rattle.ap_scopes.proofs.TreeSizes.{goal_size}
 use Rattle.ap_scopes.proofs.goals.+goals.Goals as goal
 
@@ -49,3 +52,23 @@ innermost_goal-loop-rest-preserved t c =
       numbered = c.in_ok-left-in-Either.ensures.numbered;
       smaller = let k : goal_size (goals.Either left right) ≤ goal_size (goal_of_tree c.args.goal.now) = rw is at c.loop-rest.invariant.smaller in omega arith;
     }
+
+pub innermost_goal-returns-in-Equal-clause-value : goal.innermost_goal-returns-in-Equal-clause-value
+innermost_goal-returns-in-Equal-clause-value t c =
+    let resolved = λ (u : GoalTree). resolved_goal (declared_of c.args.declared.now) (scope_of c.args.scope.now) (goal_of_tree u) (found_of c.loop-rest.found) in
+    IfOk-weaker _ _ _ (λ g e. within_is (raw_goal_within c.loop-rest.layers.items) (goal_over raw_of g, found_of c.resolved_equal.new.found) (resolved c.loop-rest.rest.now) _ (e ∙ ap resolved (sym c.in-Equal.is)) c.loop-rest.invariant.all) c.resolved_equal.ensures.value
+
+pub innermost_goal-returns-in-Fresh-clause-value : goal.innermost_goal-returns-in-Fresh-clause-value
+innermost_goal-returns-in-Fresh-clause-value t c =
+    let resolved = λ (u : GoalTree). resolved_goal (declared_of c.args.declared.now) (scope_of c.args.scope.now) (goal_of_tree u) (found_of c.loop-rest.found) in
+    IfOk-weaker _ _ _ (λ g e. within_is (raw_goal_within c.loop-rest.layers.items) (goal_over raw_of g, found_of c.resolved_fresh.new.found) (resolved c.loop-rest.rest.now) _ (e ∙ ap resolved (sym c.in-Fresh.is)) c.loop-rest.invariant.all) c.resolved_fresh.ensures.value
+
+pub innermost_goal-returns-in-Exists-clause-value : goal.innermost_goal-returns-in-Exists-clause-value
+innermost_goal-returns-in-Exists-clause-value t c =
+    let resolved = λ (u : goals.Goal). resolved_goal (declared_of c.args.declared.now) (scope_of c.args.scope.now) u (found_of c.loop-rest.found) in
+    IfOk-weaker _ _ _ (λ g e. within_is (raw_goal_within c.loop-rest.layers.items) (goal_over raw_of g, found_of c.resolved_exists.new.found) (resolved (goal_of_tree c.loop-rest.rest.now)) _ (e ∙ ap (λ (u : GoalTree). resolved (goals.Some_variable c.in-Exists.word.now (goal_of_tree u))) c.deref-in-Exists.ensures ∙ ap (λ (u : GoalTree). resolved (goal_of_tree u)) (sym c.in-Exists.is)) c.loop-rest.invariant.all) c.resolved_exists.ensures.value
+
+pub innermost_goal-returns-in-New-clause-value : goal.innermost_goal-returns-in-New-clause-value
+innermost_goal-returns-in-New-clause-value t c =
+    let resolved = λ (u : goals.Goal). resolved_goal (declared_of c.args.declared.now) (scope_of c.args.scope.now) u (found_of c.loop-rest.found) in
+    IfOk-weaker _ _ _ (λ g e. within_is (raw_goal_within c.loop-rest.layers.items) (goal_over raw_of g, found_of c.resolved_new.new.found) (resolved (goal_of_tree c.loop-rest.rest.now)) _ (e ∙ ap (λ (u : GoalTree). resolved (goals.New_name c.in-New.word.now (goal_of_tree u))) c.deref-in-New.ensures ∙ ap (λ (u : GoalTree). resolved (goal_of_tree u)) (sym c.in-New.is)) c.loop-rest.invariant.all) c.resolved_new.ensures.value

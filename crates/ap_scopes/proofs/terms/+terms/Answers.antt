@@ -1,5 +1,7 @@
 use Rattle.std.proofs.Common.{◌≡◌, ◌≤◌, sym, ap, ◌∙◌, arith}
+use Rattle.std.proofs.lemmas.Result.{IfOk-weaker}
 use Rattle.ap_defs.specs.RawTerms.{raw_of, pair, app, abs}
+use Rattle.ap_spines.specs.Spines.{raw_within}
 use Rattle.ap_spines.specs.declared.RawLayer.TheVariants as around
 use Rattle.ap_trees.specs.declared.trees.Tree.{Tree}
 use Rattle.ap_trees.specs.declared.trees.Binder.{Binder}
@@ -11,7 +13,7 @@ use Rattle.ap_scopes.specs.Resolution.{made, binder, resolved_term, resolved_arg
 use Rattle.ap_scopes.specs.Views.{declared_of, scope_of, found_of}
 use Rattle.ap_scopes.proofs.LayerLemmas.{then_is, raw_goes_in}
 use Rattle.ap_scopes.proofs.TreeSizes.{term_size, terms_size}
-use Rattle.ap_scopes.proofs.Orders.{in_order_is}
+use Rattle.ap_scopes.proofs.Orders.{in_order_is, within_is}
 use Rattle.ap_scopes.proofs.terms.+terms.Goals as goal
 
 pub resolved_tuple-loop-rest-preserved : goal.resolved_tuple-loop-rest-preserved
@@ -109,3 +111,13 @@ innermost_term-loop-rest-preserved t c =
       numbered = c.in_ok-right-in-Swapped.ensures.numbered;
       smaller = let k : term_size (terms.Swapped left right body) ≤ term_size (term_of c.args.tree.now) = rw is at c.loop-rest.invariant.smaller in omega arith;
     }
+
+pub innermost_term-returns-in-Var-clause-value : goal.innermost_term-returns-in-Var-clause-value
+innermost_term-returns-in-Var-clause-value t c =
+    let resolved = λ (u : Tree). resolved_term (declared_of c.args.declared.now) (scope_of c.args.scope.now) (term_of u) (found_of c.loop-rest.found) in
+    IfOk-weaker _ _ _ (λ r e. within_is (raw_within c.loop-rest.layers.items) (raw_of r, found_of c.identifier.new.found) (resolved c.loop-rest.rest.now) _ (e ∙ ap resolved (sym c.in-Var.is)) c.loop-rest.invariant.all) c.identifier.ensures.value
+
+pub innermost_term-returns-in-Word-clause-value : goal.innermost_term-returns-in-Word-clause-value
+innermost_term-returns-in-Word-clause-value t c =
+    let resolved = λ (u : Tree). resolved_term (declared_of c.args.declared.now) (scope_of c.args.scope.now) (term_of u) (found_of c.loop-rest.found) in
+    IfOk-weaker _ _ _ (λ r e. within_is (raw_within c.loop-rest.layers.items) (raw_of r, found_of c.word_alone.new.found) (resolved c.loop-rest.rest.now) _ (e ∙ ap resolved (sym c.in-Word.is)) c.loop-rest.invariant.all) c.word_alone.ensures.value

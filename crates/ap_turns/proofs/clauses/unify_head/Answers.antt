@@ -10,10 +10,12 @@ use Rattle.ap_store.specs.Triples.{IsPrefixOf, Triple}
 use Rattle.ap_store.specs.Views.{kinds, present, versions}
 use Rattle.ap_store.proofs.TrailLemmas.{goes_on_both}
 use Rattle.ap_machine.specs.Below.{AreWaitingBelow}
+use Rattle.ap_machine.specs.Looks.{HasLooked}
 use Rattle.ap_machine.specs.Machines.{position_of, track_of}
 use Rattle.ap_machine.specs.Stacks.{cells_of, waiting_in}
-use Rattle.ap_turns.proofs.HeadLemmas.{args_below, head_below, head_next, head_none, head_some, made_kinds, made_next, position_back, present_back, terms_cut, track_back, waiting_made}
+use Rattle.ap_turns.proofs.HeadLemmas.{args_below, head_below, head_next, head_none, head_some, made_kinds, made_next, position_back, present_back, terms_cut, track_back, versions_back, waiting_made}
 use Rattle.ap_turns.proofs.StoreTurnLemmas.{store_goes, waiting_kept}
+use Rattle.ap_machine.proofs.LookLemmas.{look_on}
 use Rattle.ap_machine.proofs.TrackLemmas.{goes_same}
 use Rattle.ap_turns.proofs.clauses.unify_head.Goals as goal
 
@@ -51,12 +53,20 @@ unify-requires-clause-right_made c =
 pub invariant_of-machine-in-Break-branch-2 : goal.invariant_of-machine-in-Break-branch-2
 invariant_of-machine-in-Break-branch-2 c =
     let s = c.args.machine.now.store in let r = c.make.new.self in
-    record { below = waiting_kept r c.unify.new.store (waiting_in c.args.machine.now.goals) c.unify.ensures.kinds (waiting_made s r c.items.result.now (waiting_in c.args.machine.now.goals) c.in_ok-start.ensures.present c.args.machine.now.below) }
+    record {
+      below = waiting_kept r c.unify.new.store (waiting_in c.args.machine.now.goals) c.unify.ensures.kinds (waiting_made s r c.items.result.now (waiting_in c.args.machine.now.goals) c.in_ok-start.ensures.present c.args.machine.now.below);
+      seen = look_on (versions s) (versions c.unify.new.store) c.args.machine.now.brought.items c.args.machine.now.look
+          (goes_on_both (versions s) (versions r) (versions c.unify.new.store) c.in_ok-start.ensures.past c.unify.ensures.past) c.args.machine.now.seen;
+    }
 
 pub invariant_of-machine-then-branch : goal.invariant_of-machine-then-branch
 invariant_of-machine-then-branch c =
     let s = c.args.machine.now.store in let r = c.make.new.self in
-    record { below = waiting_kept r c.unify.new.store (waiting_in c.args.machine.now.goals) c.unify.ensures.kinds (waiting_made s r c.items.result.now (waiting_in c.args.machine.now.goals) c.in_ok-start.ensures.present c.args.machine.now.below) }
+    record {
+      below = waiting_kept r c.unify.new.store (waiting_in c.args.machine.now.goals) c.unify.ensures.kinds (waiting_made s r c.items.result.now (waiting_in c.args.machine.now.goals) c.in_ok-start.ensures.present c.args.machine.now.below);
+      seen = look_on (versions s) (versions c.unify.new.store) c.args.machine.now.brought.items c.args.machine.now.look
+          (goes_on_both (versions s) (versions r) (versions c.unify.new.store) c.in_ok-start.ensures.past c.unify.ensures.past) c.args.machine.now.seen;
+    }
 
 pub returns-then-branch-clause-state : goal.returns-then-branch-clause-state
 returns-then-branch-clause-state c =
@@ -94,7 +104,10 @@ invariant_of-machine-else-branch c =
     let d = c.unify.new.store in
     let on : IsPrefixOf (versions s) (versions d) = goes_on_both (versions s) (versions r) (versions d) c.in_ok-start.ensures.past c.unify.ensures.past in
     let longer : (ks : List NominalKind) × (kinds d ≡ kinds s ++ ks) = (kinds_of (locals_of c.items.result.now), c.unify.ensures.kinds ∙ c.in_ok-start.ensures.kinds) in
-    record { below = subst (λ (a : Triple). AreWaitingBelow a.next (waiting_in c.args.machine.now.goals)) (sym (present_back s d c.undo_to.new.self c.mark-mark.result.place on longer c.mark-mark.ensures c.undo_to.ensures.versions c.undo_to.ensures.kinds)) c.args.machine.now.below }
+    record {
+      below = subst (λ (a : Triple). AreWaitingBelow a.next (waiting_in c.args.machine.now.goals)) (sym (present_back s d c.undo_to.new.self c.mark-mark.result.place on longer c.mark-mark.ensures c.undo_to.ensures.versions c.undo_to.ensures.kinds)) c.args.machine.now.below;
+      seen = subst (λ (vs : List Triple). HasLooked vs c.args.machine.now.brought.items c.args.machine.now.look) (sym (versions_back s d c.undo_to.new.self c.mark-mark.result.place on longer c.mark-mark.ensures c.undo_to.ensures.versions c.undo_to.ensures.kinds)) c.args.machine.now.seen;
+    }
 
 pub returns-else-branch-clause-state : goal.returns-else-branch-clause-state
 returns-else-branch-clause-state c =

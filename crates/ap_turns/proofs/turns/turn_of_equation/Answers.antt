@@ -3,13 +3,14 @@ use Rattle.ap_defs.specs.Renaming.{rename_term}
 use Rattle.ap_defs.specs.Terms.{term_of}
 use Rattle.ap_defs.specs.Unification.{unify}
 use Rattle.ap_defs.specs.declared.terms.Term.{Term}
-use Rattle.ap_store.specs.Views.{kinds, present}
+use Rattle.ap_store.specs.Views.{kinds, present, versions}
 use Rattle.ap_machine.specs.Machines.{next_of, position_of}
 use Rattle.ap_machine.specs.Positions.{goes_with, unified_state}
 use Rattle.ap_machine.specs.Stacks.{cells_of, waiting_in}
 use Rattle.ap_machine.specs.Views.{state_in}
 use Rattle.ap_turns.proofs.HeadLemmas.{one_below}
 use Rattle.ap_turns.proofs.StoreTurnLemmas.{store_goes, turned_unified, waiting_kept}
+use Rattle.ap_machine.proofs.LookLemmas.{look_on}
 use Rattle.ap_machine.proofs.TrackLemmas.{longer_same}
 use Rattle.ap_turns.proofs.turns.turn_of_equation.Goals as goal
 
@@ -31,6 +32,7 @@ unify-requires-clause-right_made c = one_below (next_of c.args.machine.now) (nex
 pub invariant_of-machine : goal.invariant_of-machine
 invariant_of-machine c = record {
   below = waiting_kept c.args.machine.now.store c.unify.new.store (waiting_in c.args.machine.now.goals) c.unify.ensures.kinds c.args.machine.now.below;
+  seen = look_on (versions c.args.machine.now.store) (versions c.unify.new.store) c.args.machine.now.brought.items c.args.machine.now.look c.unify.ensures.past c.args.machine.now.seen;
 }
 
 pub returns-clause-turned : goal.returns-clause-turned

@@ -4,7 +4,8 @@ use Rattle.ap_defs.specs.Renaming.{IsBelow, rename_term}
 use Rattle.ap_defs.specs.Substitution.{under}
 use Rattle.ap_defs.specs.Terms.{NominalTerm, term_of}
 use Rattle.ap_perm.specs.Closures.{closure_term, opened_term}
-use Rattle.ap_store.specs.Views.{bindings_of, present}
+use Rattle.ap_store.specs.Views.{bindings_of, present, versions}
+use Rattle.ap_machine.proofs.LookLemmas.{look_on}
 use Rattle.ap_machine.specs.Machines.{position_of}
 use Rattle.ap_machine.specs.Positions.{goes_with, reduced_state}
 use Rattle.ap_machine.specs.Stacks.{waiting_in}
@@ -24,6 +25,7 @@ make_fresh-requires-clause-name c =
 pub invariant_of-machine : goal.invariant_of-machine
 invariant_of-machine c = record {
   below = waiting_kept c.args.machine.now.store c.make_fresh.new.store (waiting_in c.args.machine.now.goals) c.make_fresh.ensures.kinds c.args.machine.now.below;
+  seen = look_on (versions c.args.machine.now.store) (versions c.make_fresh.new.store) c.args.machine.now.brought.items c.args.machine.now.look c.make_fresh.ensures.past c.args.machine.now.seen;
 }
 
 pub returns-in-Name-clause-turned : goal.returns-in-Name-clause-turned

@@ -5,12 +5,13 @@ use Rattle.ap_defs.specs.Resolution.{fresh_for_each}
 use Rattle.ap_defs.specs.Unification.{reduce_all}
 use Rattle.ap_defs.specs.declared.terms.Var.{Var}
 use Rattle.ap_program.proofs.RenamingLemmas.{free_vars_below, goal_below_more}
-use Rattle.ap_store.specs.Views.{bindings_of, kinds, present}
+use Rattle.ap_store.specs.Views.{bindings_of, kinds, present, versions}
 use Rattle.ap_unify.specs.Unified.{AreVarsBelow}
 use Rattle.ap_machine.specs.Machines.{position_of}
 use Rattle.ap_machine.specs.Positions.{goes_with, reduced_state, with_goal}
 use Rattle.ap_machine.specs.Stacks.{cells_of, waiting_in}
 use Rattle.ap_machine.specs.Views.{state_in}
+use Rattle.ap_machine.proofs.LookLemmas.{look_on}
 use Rattle.ap_machine.proofs.TrackLemmas.{goes_trans, longer_same}
 use Rattle.ap_turns.proofs.StoreTurnLemmas.{few_numbers, same_next, store_goes, turned_reduced, waiting_kept}
 use Rattle.ap_turns.proofs.turns.turn_of_new.Goals as goal
@@ -31,6 +32,7 @@ make_fresh_for_each-requires-clause-vars c =
 pub invariant_of-machine : goal.invariant_of-machine
 invariant_of-machine c = record {
   below = waiting_kept c.args.machine.now.store c.make_fresh_for_each.new.store (waiting_in c.args.machine.now.goals) c.make_fresh_for_each.ensures.kinds c.args.machine.now.below;
+  seen = look_on (versions c.args.machine.now.store) (versions c.make_fresh_for_each.new.store) c.args.machine.now.brought.items c.args.machine.now.look c.make_fresh_for_each.ensures.past c.args.machine.now.seen;
 }
 
 pub push_goal-requires : goal.push_goal-requires

@@ -6,7 +6,7 @@ use Rattle.ap_defs.specs.Terms.{NominalTerm, app, pair, term_of}
 use Rattle.ap_defs.specs.Unification.{size}
 use Rattle.ap_defs.specs.declared.terms.Term.{Term}
 use Rattle.ap_machine.specs.Closed.{closed_within, plain_meaning, rounds_work}
-use Rattle.ap_machine.proofs.closing.go_along.Goals as goal
+use Rattle.ap_machine.proofs.along.go_along.Goals as goal
 
 pub going-preserved : goal.going-preserved
 going-preserved c =

@@ -4,7 +4,7 @@ use Rattle.ap_defs.specs.Renaming.{IsBelow, rename_term}
 use Rattle.ap_defs.specs.Terms.{term_of}
 use Rattle.ap_defs.specs.Unification.{size}
 use Rattle.ap_machine.specs.Closed.{closed_within, plain_meaning, rounds_work}
-use Rattle.ap_machine.proofs.closing.go_along.Given as goal
+use Rattle.ap_machine.proofs.along.go_along.Given as goal
 
 -- what is left of the term, within what stands round it, is all
 abbrev pub invariant-going : goal.invariant-going

@@ -1,5 +1,10 @@
+use Rattle.std.proofs.Common.{◌+◌, List, take, sym, subst}
+use Rattle.ap_store.specs.Triples.{Triple}
+use Rattle.ap_store.specs.Views.{versions}
+use Rattle.ap_machine.specs.Looks.{HasLooked}
+use Rattle.ap_machine.specs.declared.brought.Brought.{Brought}
 use Rattle.ap_machine.proofs.MachineLemmas.{back_below, back_next, back_position, back_track}
-use Rattle.ap_machine.proofs.machine.Machine.go_back.Goals as goal
+use Rattle.ap_machine.proofs.machine.Machine.undo.Goals as goal
 
 pub invariant_of-self : goal.invariant_of-self
 invariant_of-self c =
@@ -10,7 +15,13 @@ invariant_of-self c =
     let path = c.truncate.new.self.items in
     let brought = c.truncate-2.new.self.items in
     let e = back_track s b r a path brought c.undo_to.ensures.versions c.undo_to.ensures.kinds c.back_to.ensures.cells c.truncate.ensures.items c.truncate-2.ensures.items in
-    record { below = back_below s b r a path brought e c.back_to.ensures.first c.requires.waiting }
+    let l = c.go_back.new.self in
+    record {
+      seen = subst (λ (vs : List Triple). HasLooked vs brought l) (sym c.undo_to.ensures.versions)
+          (subst (λ (bs : List Brought). HasLooked (take (s.mark.place + 1) (versions b.store)) bs l) (sym c.truncate-2.ensures.items)
+          (c.go_back.ensures (versions b.store) b.brought.items b.seen c.requires.within.mark c.requires.within.brought));
+      below = back_below s b r a path brought e c.back_to.ensures.first c.requires.waiting;
+    }
 
 pub returns-clause-track : goal.returns-clause-track
 returns-clause-track c =
