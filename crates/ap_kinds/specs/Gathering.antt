@@ -9,7 +9,7 @@ use Rattle.ap_defs.specs.Types as types
 use Rattle.ap_defs.specs.Goals.{GoalOver, succeed, atom, equal, fresh, both, either, exists, new}
 use Rattle.ap_defs.specs.Printing.{constructor_in}
 use Rattle.ap_types.specs.Equations.{ShapeEquation, ◌≐◌}
-use Rattle.ap_types.specs.Growing.{is_same}
+use Rattle.ap_types.specs.Growing.{is_same, near_base}
 use Rattle.ap_program.specs.Typed.{predicate_at}
 use Rattle.ap_kinds.specs.declared.kinds.IdentKind.{IdentKind}
 use Rattle.ap_kinds.specs.declared.wants.Wanted.{Wanted}
@@ -119,22 +119,46 @@ pub record Sides : Type 0 where
   pub right : Wanting
   pub system : EquationSystem
 
-abbrev pub new_sides : TypeShape → EquationSystem → Sides
-new_sides w s = record {
+-- the data type of a term, if it is an application of a declared constructor
+abbrev pub result_in : Option NominalConstructor → Option ℕ
+result_in None = None
+result_in (Some c) = Some c.result
+
+abbrev pub result_of : List NominalConstructor → RawTerm → Option ℕ
+result_of cs (raw.app f t) = result_in (constructor_in cs f)
+result_of cs t = None
+
+-- a hole of which the table says that it is of that data type
+abbrev pub near_for : List TypeShape → Option ℕ → Option ℕ
+near_for ts None = None
+near_for ts (Some d) = near_base ts d
+
+-- the left side is such a hole, or a new one
+abbrev pub new_sides_at : Option ℕ → TypeShape → EquationSystem → Sides
+new_sides_at (Some x) w s = record {
+  left = whole (hole x);
+  right = whole (hole s.next);
+  system = equate w (pair (hole x) (hole s.next)) (with_hole s);
+}
+new_sides_at None w s = record {
   left = whole (hole s.next);
   right = whole (hole (s.next + 1));
   system = equate w (pair (hole s.next) (hole (s.next + 1))) (with_hole (with_hole s));
 }
 
-abbrev pub sides : Wanting → EquationSystem → Sides
-sides (whole (pair a b)) s = record { left = whole a; right = whole b; system = s }
-sides (whole w) s = new_sides w s
-sides (typed (types.pair a b)) s = record { left = typed a; right = typed b; system = s }
-sides (typed a) s = new_sides (shape_of_type a) s
-sides nothing s = record { left = nothing; right = nothing; system = system_refused s }
-sides (more a rest) s = record { left = typed a; right = wanting_all rest; system = s }
-sides (cell x) s = record { left = whole (hole x); right = whole (list (hole x)); system = s }
-sides (typed_cell a) s = record { left = typed a; right = typed (types.list a); system = s }
+abbrev pub new_sides : Option ℕ → TypeShape → EquationSystem → Sides
+new_sides d w s = new_sides_at (near_for s.table d) w s
+
+-- of a pair whose left side has the data type d, if it is known to have one
+abbrev pub sides : Option ℕ → Wanting → EquationSystem → Sides
+sides d (whole (pair a b)) s = record { left = whole a; right = whole b; system = s }
+sides d (whole w) s = new_sides d w s
+sides d (typed (types.pair a b)) s = record { left = typed a; right = typed b; system = s }
+sides d (typed a) s = new_sides d (shape_of_type a) s
+sides d nothing s = record { left = nothing; right = nothing; system = system_refused s }
+sides d (more a rest) s = record { left = typed a; right = wanting_all rest; system = s }
+sides d (cell x) s = record { left = whole (hole x); right = whole (list (hole x)); system = s }
+sides d (typed_cell a) s = record { left = typed a; right = typed (types.list a); system = s }
 
 -- What is wanted of the term inside an application or an abstraction.
 pub record Inside : Type 0 where
@@ -179,14 +203,16 @@ inside_abstraction n w s = new_body n w s
 -- a list cell of the constructor where the one is wanted: the other is wanted of its element, and the one again of its tail
 abbrev pub IsCellWanted : ℕ → Wanting → Wanting → Type 0
 IsCellWanted f w v =
-    (cs : List NominalConstructor) (s : EquationSystem) → sides (inside_application cs f w s).want (inside_application cs f w s).system ≡ record { left = v; right = w; system = s }
+    (cs : List NominalConstructor) (d : Option ℕ) (s : EquationSystem)
+    → sides d (inside_application cs f w s).want (inside_application cs f w s).system ≡ record { left = v; right = w; system = s }
 
 abbrev pub gather_term : List NominalConstructor → List IdentKind → RawTerm → Wanting → EquationSystem → EquationSystem
 gather_term cs idents raw.unit w s = meet_unit w s
 gather_term cs idents (raw.name a) w s = meet_name idents a.num w s
 gather_term cs idents (raw.var x) w s = meet_var idents x.num w s
 gather_term cs idents (raw.pair t u) w s =
-    gather_term cs idents u (sides w s).right (gather_term cs idents t (sides w s).left (sides w s).system)
+    gather_term cs idents u (sides (result_of cs t) w s).right
+    (gather_term cs idents t (sides (result_of cs t) w s).left (sides (result_of cs t) w s).system)
 gather_term cs idents (raw.app f t) w s =
     gather_term cs idents t (inside_application cs f w s).want (inside_application cs f w s).system
 gather_term cs idents (raw.abs i t) w s =

@@ -86,7 +86,7 @@ fn inside_cell<'a>(
 
 /// The declared constructor with a number, of which 0 and 1 are none.
 #[tactic(auto, using(crate::proofs::Lookups::constructor_found, crate::proofs::Lookups::constructor_low, crate::proofs::Lookups::constructor_past))]
-fn declared_at(constructors: &[Constructor], f: u32) -> Option<&Constructor>
+pub(crate) fn declared_at(constructors: &[Constructor], f: u32) -> Option<&Constructor>
     ensures { MatchOption result (constructor_in (map constructor_of constructors.now) f ≡ None) (λ c.
         constructor_in (map constructor_of constructors.now) f ≡ Some (constructor_of c.now)) }
 {
