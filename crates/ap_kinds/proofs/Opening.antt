@@ -1,15 +1,17 @@
 -- What is wanted inside a pair, an application and an abstraction.
-use Rattle.std.proofs.Common.{◌≡◌, ◌<◌, ◌+◌, ◌∙◌, ◌⊎◌, inl, inr, ℕ, List, [], ◌∷◌, length, refl, sym, ap, subst, arith, Option, Some, None}
+use Rattle.std.proofs.Common.{◌≡◌, ◌<◌, ◌+◌, ◌∙◌, ℕ, List, [], ◌∷◌, length, refl, sym, ap, subst, arith, Option, Some, None}
 use Rattle.ap_defs.specs.Types.{NominalType, NominalConstructor, TypeShape, hole, unit, names, base, pair, list, abs}
 use Rattle.ap_defs.specs.Types as types
 use Rattle.ap_defs.specs.Typing as typing
 use Rattle.ap_defs.specs.Typing.{Want, one, arguments}
 use Rattle.ap_kinds.specs.declared.kinds.IdentKind.{IdentKind}
 use Rattle.ap_kinds.specs.Systems.{EquationSystem, with_hole, system_refused, shape_of_type}
-use Rattle.ap_kinds.specs.Gathering.{Wanting, whole, typed, nothing, more, cell, typed_cell, wanting_all, near_for, sides, new_sides, new_sides_at, cell_wanted, inside_element, inside_cell, new_element, inside_declared}
-use Rattle.ap_types.specs.Equations.{filled}
+use Rattle.ap_kinds.specs.Gathering.{Wanting, whole, typed, nothing, more, cell, typed_cell, wanting_all, near_for, sides, sides_of_hole, new_sides, new_sides_at, cell_if, cell_wanted, inside_element, inside_cell, new_element, inside_declared}
+use Rattle.ap_types.specs.Equations.{filled, bound_of}
 use Rattle.ap_types.specs.Solving.{shape_at}
-use Rattle.ap_types.proofs.GrowLemmas.{near_is, base_below}
+use Rattle.ap_types.specs.Triangular.{IsFormed}
+use Rattle.ap_types.specs.Growing.{pair_in, list_in}
+use Rattle.ap_types.proofs.GrowLemmas.{pair_is, list_is, near_is, base_below}
 use Rattle.ap_kinds.proofs.Assignments.{Assign, filling, closed, Agree, closed_opened, closed_same, opened_injective, agree_on}
 use Rattle.ap_kinds.proofs.IdentLemmas.{fits_same}
 use Rattle.ap_kinds.proofs.Inversions.{Splits, Declares, IsOf}
@@ -58,6 +60,28 @@ opens_two_holes n idents t s m h =
             q.3 ∙ ap one (sym first ∙ c.1 s.next (omega arith)),
             q.4 ∙ ap one (sym o.3 ∙ c.1 (s.next + 1) (omega arith)),
           );
+    }
+
+-- a hole of which the table says that it is a pair
+opens_known_pair : (n : ℕ) (idents : List IdentKind) (x y z : ℕ) (s : EquationSystem) → shape_at s.table x ≡ pair (hole y) (hole z) → IsMade n idents s
+    → Opens n idents (SidesOf (whole (hole x))) s (whole (hole y)) (whole (hole z)) s
+opens_known_pair n idents x y z s e m =
+    let within : bound_of (pair (hole y) (hole z)) ≤ length s.table = subst (IsFormed (length s.table) x) e (m.formed x) in
+    let held = m.held in
+    let known : (φ : Assign) → Meets n φ s → φ x ≡ types.pair (φ y) (φ z) =
+    λ φ r. opened_injective (φ x) (types.pair (φ y) (φ z)) (r.0.0 x ∙ ap (filled (filling φ)) e) in
+    record {
+      made = m;
+      grows = grows_refl n s;
+      left = hole_shape n y s (omega (arith, within, held));
+      right = hole_shape n z s (omega (arith, within, held));
+      sound = λ φ f r. splits_as (φ x) (φ y) (φ z) (known φ r);
+      complete = λ φ f r a b h.
+          let q = split_one (φ x) a b h in
+          let both : types.pair (φ y) (φ z) ≡ types.pair q.0 q.1 = sym (known φ r) ∙ q.2 in
+          let first : q.0 ≡ φ y = cc in
+          let second : q.1 ≡ φ z = cc in
+          (φ, agree_self s.next φ, r, q.3 ∙ ap one first, q.4 ∙ ap one second);
     }
 
 -- a hole of which the table says what data type it is
@@ -172,11 +196,18 @@ opens_as_it_is : (n : ℕ) (idents : List IdentKind) (d : Option ℕ) (R : Assig
     → ((φ : Assign) → R φ (want_by φ w) (want_by φ v)) → ((φ : Assign) (a b : Want) → R φ a b → (a ≡ want_by φ w) × (b ≡ want_by φ v)) → OpensFor n idents (LeftOf d) R s w v s
 opens_as_it_is n idents d R s w v m p q to from = opens_for n idents (LeftOf d) R s s w v (opens_same n idents R s w v m p q to from)
 
+opens_hole : (n : ℕ) (idents : List IdentKind) (d : Option ℕ) (x : ℕ) (o : Option (ℕ × ℕ)) (s : EquationSystem) → pair_in (shape_at s.table x) ≡ o → IsMade n idents s → IsShapeOf n (hole x) s
+    → OpensFor n idents (LeftOf d) (SidesOf (whole (hole x))) s (sides_of_hole d x o s).left (sides_of_hole d x o s).right (sides_of_hole d x o s).system
+opens_hole n idents d x None s e m h = opens_new_sides n idents d (hole x) s m h
+opens_hole n idents d x (Some p) s e m h =
+    opens_for n idents (LeftOf d) (SidesOf (whole (hole x))) s s (whole (hole p.0)) (whole (hole p.1))
+    (opens_known_pair n idents x p.0 p.1 s (pair_is (shape_at s.table x) p e) m)
+
 pub opens_sides : (n : ℕ) (idents : List IdentKind) (d : Option ℕ) (w : Wanting) (s : EquationSystem) → IsMade n idents s → Suits n w s
     → OpensFor n idents (LeftOf d) (SidesOf w) s (sides d w s).left (sides d w s).right (sides d w s).system
 opens_sides n idents d (whole (pair t u)) s m h =
     opens_as_it_is n idents d (SidesOf (whole (pair t u))) s (whole t) (whole u) m (left_side n t u s h) (right_side n t u s h) (λ φ. (refl, refl)) (λ φ a b r. r)
-opens_sides n idents d (whole (hole x)) s m h = opens_new_sides n idents d (hole x) s m h
+opens_sides n idents d (whole (hole x)) s m h = opens_hole n idents d x (pair_in (shape_at s.table x)) s refl m h
 opens_sides n idents d (whole unit) s m h = opens_new_sides n idents d unit s m h
 opens_sides n idents d (whole (names k)) s m h = opens_new_sides n idents d (names k) s m h
 opens_sides n idents d (whole (base c)) s m h = opens_new_sides n idents d (base c) s m h
@@ -234,10 +265,38 @@ opens_new_element n idents w s m h =
     }
 
 -- a list of the type of a hole is wanted, or of a type
-cell_by : (w v : Wanting) → cell_wanted w ≡ Some v → ((x : ℕ) × (w ≡ whole (list (hole x))) × (v ≡ cell x)) ⊎ ((c : NominalType) × (w ≡ typed (types.list c)) × (v ≡ typed_cell c))
-cell_by (whole (list (hole x))) v e = inl (x, refl, (let d : v ≡ cell x = cc in d))
-cell_by (typed (types.list c)) v e = inr (c, refl, (let d : v ≡ typed_cell c = cc in d))
-cell_by _ v e = cc
+data CellBy (ts : List TypeShape) (w v : Wanting) : Type 0 where
+  of_hole : (x : ℕ) → w ≡ whole (list (hole x)) → v ≡ cell x → CellBy ts w v
+  of_type : (c : NominalType) → w ≡ typed (types.list c) → v ≡ typed_cell c → CellBy ts w v
+  of_known : (x y : ℕ) → w ≡ whole (hole x) → shape_at ts x ≡ list (hole y) → v ≡ cell y → CellBy ts w v
+
+known_by : (ts : List TypeShape) (x : ℕ) (o : Option ℕ) (v : Wanting) → list_in (shape_at ts x) ≡ o → cell_if o ≡ Some v → CellBy ts (whole (hole x)) v
+known_by ts x None v i e = let c : ◌≡◌ {A = Option Wanting} None (Some v) = e in absurd (cc)
+known_by ts x (Some y) v i e = of_known x y refl (list_is (shape_at ts x) y i) (let d : v ≡ cell y = cc in d)
+
+cell_by : (ts : List TypeShape) (w v : Wanting) → cell_wanted ts w ≡ Some v → CellBy ts w v
+cell_by ts (whole (list (hole x))) v e = of_hole x refl (let d : v ≡ cell x = cc in d)
+cell_by ts (whole (hole x)) v e = known_by ts x (list_in (shape_at ts x)) v refl e
+cell_by ts (typed (types.list c)) v e = of_type c refl (let d : v ≡ typed_cell c = cc in d)
+cell_by ts _ v e = cc
+
+opens_known_cell : (n : ℕ) (idents : List IdentKind) (x y : ℕ) (s : EquationSystem) → shape_at s.table x ≡ list (hole y) → IsMade n idents s
+    → Opens n idents (CellOf (whole (hole x))) s (cell y) nothing s
+opens_known_cell n idents x y s e m =
+    let within : bound_of (list (hole y)) ≤ length s.table = subst (IsFormed (length s.table) x) e (m.formed x) in
+    let held = m.held in
+    let known : (φ : Assign) → Meets n φ s → φ x ≡ types.list (φ y) = λ φ r. opened_injective (φ x) (types.list (φ y)) (r.0.0 x ∙ ap (filled (filling φ)) e) in
+    record {
+      made = m;
+      grows = grows_refl n s;
+      left = omega (arith, within, held);
+      right = tt;
+      sound = λ φ f r. (φ y, ap one (known φ r), refl, refl);
+      complete = λ φ f r a b z.
+          let d : ◌≡◌ {A = Want} (one (types.list (φ y))) (one (types.list z.0)) = sym (ap one (known φ r)) ∙ z.1 in
+          let c : φ y ≡ z.0 = cc in
+          (φ, agree_self s.next φ, r, z.2 ∙ ap (λ b. typing.more b (one (types.list b))) (sym c), z.3);
+    }
 
 opens_hole_cell : (n : ℕ) (idents : List IdentKind) (x : ℕ) (s : EquationSystem) → IsMade n idents s → Suits n (whole (list (hole x))) s
     → Opens n idents (CellOf (whole (list (hole x)))) s (cell x) nothing s
@@ -258,22 +317,25 @@ opens_typed_cell n idents c s m =
     let e : c ≡ r.0 = cc in
     (r.2 ∙ ap (λ z. typing.more z (one (types.list z))) (sym e), r.3))
 
-opens_element : (n : ℕ) (idents : List IdentKind) (o : Option Wanting) (w : Wanting) (s : EquationSystem) → cell_wanted w ≡ o → IsMade n idents s → Suits n w s
+opens_by : (n : ℕ) (idents : List IdentKind) (w v : Wanting) (s : EquationSystem) → CellBy s.table w v → IsMade n idents s → Suits n w s → Opens n idents (CellOf w) s v nothing s
+opens_by n idents w v s (of_hole x i j) m h =
+    let o = opens_hole_cell n idents x s m (subst (λ (z : Wanting). Suits n z s) i h) in
+    subst (λ (z : Wanting). Opens n idents (CellOf w) s z nothing s) (sym j) (subst (λ (z : Wanting). Opens n idents (CellOf z) s (cell x) nothing s) (sym i) o)
+opens_by n idents w v s (of_type c i j) m h =
+    let o = opens_typed_cell n idents c s m in
+    subst (λ (z : Wanting). Opens n idents (CellOf w) s z nothing s) (sym j) (subst (λ (z : Wanting). Opens n idents (CellOf z) s (typed_cell c) nothing s) (sym i) o)
+opens_by n idents w v s (of_known x y i e j) m h =
+    let o = opens_known_cell n idents x y s e m in
+    subst (λ (z : Wanting). Opens n idents (CellOf w) s z nothing s) (sym j) (subst (λ (z : Wanting). Opens n idents (CellOf z) s (cell y) nothing s) (sym i) o)
+
+opens_element : (n : ℕ) (idents : List IdentKind) (o : Option Wanting) (w : Wanting) (s : EquationSystem) → cell_wanted s.table w ≡ o → IsMade n idents s → Suits n w s
     → Opens n idents (CellOf w) s (inside_element o w s).want nothing (inside_element o w s).system
 opens_element n idents None w s e m h = opens_new_element n idents w s m h
-opens_element n idents (Some v) w s e m h =
-    elim (cell_by w v e) [
-      | inl k ↦
-          let o = opens_hole_cell n idents k.0 s m (subst (λ (z : Wanting). Suits n z s) k.1 h) in
-          subst (λ (z : Wanting). Opens n idents (CellOf w) s z nothing s) (sym k.2) (subst (λ (z : Wanting). Opens n idents (CellOf z) s (cell k.0) nothing s) (sym k.1) o)
-      | inr k ↦
-          let o = opens_typed_cell n idents k.0 s m in
-          subst (λ (z : Wanting). Opens n idents (CellOf w) s z nothing s) (sym k.2) (subst (λ (z : Wanting). Opens n idents (CellOf z) s (typed_cell k.0) nothing s) (sym k.1) o)
-    ]
+opens_element n idents (Some v) w s e m h = opens_by n idents w v s (cell_by s.table w v e) m h
 
 pub opens_cell : (n : ℕ) (idents : List IdentKind) (w : Wanting) (s : EquationSystem) → IsMade n idents s → Suits n w s
     → Opens n idents (CellOf w) s (inside_cell w s).want nothing (inside_cell w s).system
-opens_cell n idents w s m h = opens_element n idents (cell_wanted w) w s refl m h
+opens_cell n idents w s m h = opens_element n idents (cell_wanted s.table w) w s refl m h
 
 pub opens_nil : (n : ℕ) (idents : List IdentKind) (w : Wanting) (s : EquationSystem) → IsMade n idents s → Suits n w s
     → Opens n idents (NilOf w) s nothing nothing (inside_cell w s).system

@@ -1,22 +1,23 @@
 -- Shapes whose parts are not taken out.
-use Rattle.std.proofs.Common.{◌≡◌, ◌<◌, ◌∙◌, ℕ, List, Option, refl, sym, ap, subst, arith}
+use Rattle.std.proofs.Common.{◌≡◌, ◌<◌, ◌∙◌, ℕ, false, List, Option, refl, sym, ap, subst, arith}
 use Rattle.ap_defs.specs.Types.{NominalType, NominalConstructor, TypeShape, hole, unit, names, base, pair, list, abs, IsNoPair, IsNoAbs}
 use Rattle.ap_defs.specs.Types as types
 use Rattle.ap_defs.specs.RawTerms.{RawTerm}
 use Rattle.ap_defs.specs.RawTerms as raw
 use Rattle.ap_spines.proofs.SpineLemmas.{raw_size}
 use Rattle.ap_kinds.specs.declared.kinds.IdentKind.{IdentKind}
+use Rattle.ap_types.specs.Growing.{is_hole}
 use Rattle.ap_kinds.specs.Systems.{EquationSystem}
 use Rattle.ap_kinds.specs.Gathering.{Wanting, Sides, whole, typed, sides, new_sides, result_of, inside_abstraction, new_body, gather_term, IsCellWanted}
 
-pub no_pair_sides : (o : Option ℕ) (t : TypeShape) (s : EquationSystem) → IsNoPair t → sides o (whole t) s ≡ new_sides o t s
-no_pair_sides o (hole x) s h = refl
-no_pair_sides o unit s h = refl
-no_pair_sides o (names k) s h = refl
-no_pair_sides o (base d) s h = refl
-no_pair_sides o (pair t u) s h = absurd h
-no_pair_sides o (list t) s h = refl
-no_pair_sides o (abs t u) s h = refl
+pub no_pair_sides : (o : Option ℕ) (t : TypeShape) (s : EquationSystem) → IsNoPair t → is_hole t ≡ false → sides o (whole t) s ≡ new_sides o t s
+no_pair_sides o (hole x) s h e = absurd (cc)
+no_pair_sides o unit s h e = refl
+no_pair_sides o (names k) s h e = refl
+no_pair_sides o (base d) s h e = refl
+no_pair_sides o (pair t u) s h e = absurd h
+no_pair_sides o (list t) s h e = refl
+no_pair_sides o (abs t u) s h e = refl
 
 pub no_abs_inside : (n : ℕ) (t : TypeShape) (s : EquationSystem) → IsNoAbs t → inside_abstraction n (whole t) s ≡ new_body n (whole t) s
 no_abs_inside n (hole x) s h = refl

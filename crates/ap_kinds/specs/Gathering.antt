@@ -9,7 +9,8 @@ use Rattle.ap_defs.specs.Types as types
 use Rattle.ap_defs.specs.Goals.{GoalOver, succeed, atom, equal, fresh, both, either, exists, new}
 use Rattle.ap_defs.specs.Printing.{constructor_in}
 use Rattle.ap_types.specs.Equations.{ShapeEquation, ◌≐◌}
-use Rattle.ap_types.specs.Growing.{is_same, near_base}
+use Rattle.ap_types.specs.Solving.{shape_at}
+use Rattle.ap_types.specs.Growing.{is_same, pair_in, list_in, near_base}
 use Rattle.ap_program.specs.Typed.{predicate_at}
 use Rattle.ap_kinds.specs.declared.kinds.IdentKind.{IdentKind}
 use Rattle.ap_kinds.specs.declared.wants.Wanted.{Wanted}
@@ -149,9 +150,15 @@ new_sides_at None w s = record {
 abbrev pub new_sides : Option ℕ → TypeShape → EquationSystem → Sides
 new_sides d w s = new_sides_at (near_for s.table d) w s
 
+-- the sides of the hole, if the table says that it is a pair
+abbrev pub sides_of_hole : Option ℕ → ℕ → Option (ℕ × ℕ) → EquationSystem → Sides
+sides_of_hole d x (Some p) s = record { left = whole (hole p.0); right = whole (hole p.1); system = s }
+sides_of_hole d x None s = new_sides d (hole x) s
+
 -- of a pair whose left side has the data type d, if it is known to have one
 abbrev pub sides : Option ℕ → Wanting → EquationSystem → Sides
 sides d (whole (pair a b)) s = record { left = whole a; right = whole b; system = s }
+sides d (whole (hole x)) s = sides_of_hole d x (pair_in (shape_at s.table x)) s
 sides d (whole w) s = new_sides d w s
 sides d (typed (types.pair a b)) s = record { left = typed a; right = typed b; system = s }
 sides d (typed a) s = new_sides d (shape_of_type a) s
@@ -168,11 +175,21 @@ pub record Inside : Type 0 where
 abbrev pub new_element : Wanting → EquationSystem → Inside
 new_element w s = record { want = cell s.next; system = meet w (list (hole s.next)) (with_hole s) }
 
--- what is wanted of the parts of a list cell, where a list of a type or of the type of a hole is wanted
-abbrev pub cell_wanted : Wanting → Option Wanting
-cell_wanted (whole (list (hole x))) = Some (cell x)
-cell_wanted (typed (types.list a)) = Some (typed_cell a)
-cell_wanted _ = None
+abbrev pub cell_if : Option ℕ → Option Wanting
+cell_if (Some x) = Some (cell x)
+cell_if None = None
+
+abbrev pub cell_in_type : NominalType → Option Wanting
+cell_in_type (types.list a) = Some (typed_cell a)
+cell_in_type _ = None
+
+-- what is wanted of the parts of a list cell, where a list of a type or of the type of a hole is wanted, or a hole of which the table says that
+-- it is a list of the type of a hole
+abbrev pub cell_wanted : List TypeShape → Wanting → Option Wanting
+cell_wanted ts (whole (list (hole x))) = Some (cell x)
+cell_wanted ts (whole (hole x)) = cell_if (list_in (shape_at ts x))
+cell_wanted ts (typed a) = cell_in_type a
+cell_wanted ts _ = None
 
 abbrev pub inside_element : Option Wanting → Wanting → EquationSystem → Inside
 inside_element (Some v) w s = record { want = v; system = s }
@@ -180,7 +197,7 @@ inside_element None w s = new_element w s
 
 -- what is wanted of the two parts of a list cell
 abbrev pub inside_cell : Wanting → EquationSystem → Inside
-inside_cell w s = inside_element (cell_wanted w) w s
+inside_cell w s = inside_element (cell_wanted s.table w) w s
 
 abbrev pub inside_declared : Option NominalConstructor → Wanting → EquationSystem → Inside
 inside_declared None w s = record { want = nothing; system = system_refused s }

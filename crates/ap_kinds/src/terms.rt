@@ -3,6 +3,7 @@
 ghost use Rattle.std.specs.Prelude.{◌≡◌, map, IfOk, IfSome, OnOk};
 ghost use Rattle.ap_defs.specs.RawTerms.{raw_of, pair as raw_pair};
 ghost use Rattle.ap_defs.specs.Types.{shape_of, type_of, constructor_of, hole, pair};
+ghost use Rattle.ap_types.specs.Growing.{is_hole};
 ghost use Rattle.ap_kinds.specs.Systems.{system_of, equate, with_hole};
 ghost use Rattle.ap_kinds.specs.Gathering.{wanting_of, whole, typed, result_of, new_sides_at, new_sides, sides, meet_swapped, one_sort, name_place, inside_abstraction, gather_term, IsCellWanted};
 
@@ -17,6 +18,7 @@ use crate::wants::{
 use ap_defs::goals::Constructor;
 use ap_defs::memory::Memory;
 use ap_defs::terms::{Id, Raw, Shape, Ty, Under, take_pair};
+use ap_types::growing::pair_at;
 use std::alloc::Global;
 
 /// What is wanted of the two sides of a pair.
@@ -102,14 +104,38 @@ fn new_sides<'a>(
     sides_at(alloc, near, want, system)
 }
 
-/// What is wanted of the two sides of a pair that stands where a shape is wanted.
+/// What is wanted of the two sides of a pair that stands where a hole is wanted.
+fn sides_of_hole<'a>(
+    alloc: Global,
+    base: Option<u32>,
+    x: u64,
+    system: &mut System,
+) -> Result<Sides<'a>, Memory>
+    ensures left { IfOk result (λ p. wanting_of p.left
+        ≡ (sides base (whole (hole x)) (system_of system.old)).left) }
+    ensures right { IfOk result (λ p. wanting_of p.right
+        ≡ (sides base (whole (hole x)) (system_of system.old)).right) }
+    ensures system { OnOk result (system_of system.new
+        ≡ (sides base (whole (hole x)) (system_of system.old)).system) }
+{
+    match pair_at(system.nodes.as_slice(), x as usize) {
+        Some((left, right)) => Ok(Sides {
+            left: Wanted::Whole(Shape::Hole(left as u64)),
+            right: Wanted::Whole(Shape::Hole(right as u64)),
+        }),
+        None => new_sides(alloc, base, Shape::Hole(x), system),
+    }
+}
+
+/// What is wanted of the two sides of a pair that stands where a shape is wanted that is no hole.
 #[tactic(auto, using(crate::proofs::TakenLemmas::no_pair_sides))]
-fn sides_of_shape<'a>(
+fn sides_of_other<'a>(
     alloc: Global,
     base: Option<u32>,
     want: Shape,
     system: &mut System,
 ) -> Result<Sides<'a>, Memory>
+    requires { is_hole (shape_of want) ≡ false }
     ensures left { IfOk result (λ p. wanting_of p.left
         ≡ (sides base (whole (shape_of want)) (system_of system.old)).left) }
     ensures right { IfOk result (λ p. wanting_of p.right
@@ -125,6 +151,26 @@ fn sides_of_shape<'a>(
         }),
         None => new_sides(alloc, base, shape, system),
     }
+}
+
+/// What is wanted of the two sides of a pair that stands where a shape is wanted.
+fn sides_of_shape<'a>(
+    alloc: Global,
+    base: Option<u32>,
+    want: Shape,
+    system: &mut System,
+) -> Result<Sides<'a>, Memory>
+    ensures left { IfOk result (λ p. wanting_of p.left
+        ≡ (sides base (whole (shape_of want)) (system_of system.old)).left) }
+    ensures right { IfOk result (λ p. wanting_of p.right
+        ≡ (sides base (whole (shape_of want)) (system_of system.old)).right) }
+    ensures system { OnOk result (system_of system.new
+        ≡ (sides base (whole (shape_of want)) (system_of system.old)).system) }
+{
+    if let Shape::Hole(x) = &want {
+        return sides_of_hole(alloc, base, *x, system);
+    }
+    sides_of_other(alloc, base, want, system)
 }
 
 /// What is wanted of the two sides of a pair that stands where a type is wanted.

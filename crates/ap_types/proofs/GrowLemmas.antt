@@ -12,7 +12,7 @@ use Rattle.ap_types.specs.Equations.{◌≐◌, Filling, filled, bound_of}
 use Rattle.ap_types.specs.Solving.{shape_at}
 use Rattle.ap_types.specs.Triangular.{layer_of, shapes_of_nodes, Fits, IsFormed, AreFormed}
 use Rattle.ap_types.specs.Joining.{ArePairsWithin, LoadsAll}
-use Rattle.ap_types.specs.Growing.{open_table, is_same, is_hole, is_flat, is_below, can_stand, is_open_hole, put_at, put_hole, first_table, with_same, so_far, with_equation, near_of, near_base}
+use Rattle.ap_types.specs.Growing.{open_table, is_same, is_hole, is_flat, is_below, can_stand, is_open_hole, put_at, put_hole, first_table, with_same, so_far, with_equation, pair_in, list_in, near_of, near_base}
 use Rattle.ap_types.proofs.TableLemmas.{compare_numbers, at_set_same, at_set_other, at_past, length_set, length_table, table_push, table_set, form_more}
 use Rattle.ap_types.proofs.LinkLemmas.{equal_or_not, set_formed}
 use Rattle.ap_types.proofs.FillLemmas.{fits_without, fits_with}
@@ -195,6 +195,15 @@ far_filled f ts (base d) k = refl
 far_filled f ts (pair t u) k = refl
 far_filled f ts (list t) k = refl
 far_filled f ts (abs t u) k = refl
+
+-- Places that are a pair or a list.
+pub pair_is : (t : TypeShape) (p : ℕ × ℕ) → pair_in t ≡ Some p → t ≡ pair (hole p.0) (hole p.1)
+pair_is (pair (hole x) (hole y)) p e = let i : ◌≡◌ {A = ℕ × ℕ} (x, y) p = cc in ap (λ (q : ℕ × ℕ). pair (hole q.0) (hole q.1)) i
+pair_is _ p e = cc
+
+pub list_is : (t : TypeShape) (x : ℕ) → list_in t ≡ Some x → t ≡ list (hole x)
+list_is (list (hole y)) x e = let i : y ≡ x = cc in ap (λ z. list (hole z)) i
+list_is _ x e = cc
 
 -- Places of a data type.
 near_here : (ts : List TypeShape) (d e y p : ℕ) (b : Bool) → (e == d) ≡ b → shape_at ts y ≡ base e → (if b then Some y else None) ≡ Some p → shape_at ts p ≡ base d

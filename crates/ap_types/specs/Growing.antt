@@ -82,6 +82,16 @@ abbrev pub so_far : List TypeShape → TypeShape → TypeShape
 so_far ts (hole x) = shape_at ts x
 so_far ts t = t
 
+-- the sides of a pair whose parts are holes
+abbrev pub pair_in : TypeShape → Option (ℕ × ℕ)
+pair_in (pair (hole x) (hole y)) = Some (x, y)
+pair_in t = None
+
+-- the hole of a list's elements
+abbrev pub list_in : TypeShape → Option ℕ
+list_in (list (hole x)) = Some x
+list_in t = None
+
 -- whether the table says of place x that it is of the data type d
 abbrev pub is_base_at : List TypeShape → ℕ → ℕ → Bool
 is_base_at ts d x = is_same (shape_at ts x) (base d)
