@@ -2,12 +2,13 @@
 
 ghost use Rattle.std.specs.Prelude.{◌≡◌, ℕ, ◌+◌, ◌++◌, ◌∷◌, [], length, IfOk, OnOk};
 ghost use Rattle.ap_defs.specs.Types.{shape_of, hole, pair};
+ghost use Rattle.ap_kinds.specs.Gathering.{near_for};
 ghost use Rattle.ap_kinds.specs.Systems.{system_of, equate, with_name_hole, with_hole, system_refused, is_name_at, is_var_at, name_holes, started};
 
 use crate::kinds::IdentKind;
 use ap_defs::memory::Memory;
 use ap_defs::terms::Shape;
-use ap_types::growing::{open_table, put_entry, put_equation};
+use ap_types::growing::{near_base, open_table, put_entry, put_equation};
 use ap_types::nodes::Node;
 use std::alloc::Global;
 
@@ -80,6 +81,19 @@ pub(crate) fn new_hole(system: &mut System) -> Result<u64, Memory>
     system.nodes.push(Node::Place(place))?;
     system.next = hole + 1;
     Ok(hole)
+}
+
+/// A hole of which it is said already that it is of a data type, if one is given.
+pub(crate) fn near_hole(system: &System, base: Option<u32>) -> Option<u64>
+    ensures { result ≡ near_for (system_of system.now).table base }
+{
+    match base {
+        None => None,
+        Some(base) => match near_base(system.nodes.as_slice(), base) {
+            None => None,
+            Some(place) => Some(place as u64),
+        },
+    }
 }
 
 /// An equation that nothing solves.
