@@ -104,10 +104,10 @@ pub same_more : (xs ys zs ws all : List Var) → SameVars ys (xs ++ zs) → Same
 same_more xs ys zs ws all h k = λ y. append_same_vars ys (xs ++ zs) ws ws h (λ x. refl) y ∙ ap (has_var y) (append_assoc xs zs ws) ∙ k y
 
 -- the next of a list is put behind
-pub same_next : (xs ys more : List Var) (x : Var) (i : ℕ) (all : List Var) → i < length more → x ≡ get_or more i x → SameVars ys (xs ++ x ∷ []) → SameVars (xs ++ drop i more) all → SameVars (ys ++ drop (i + 1) more) all
-same_next xs ys more x i all h e k inv =
-    let next : drop i more ≡ x ∷ drop (suc i) more = drop-cons more i x h ∙ ap (λ (z : Var). z ∷ drop (suc i) more) (sym e) in
-    let left : SameVars (ys ++ drop (suc i) more) all = same_more xs ys (x ∷ []) (drop (suc i) more) all k (λ y. ap (λ (zs : List Var). has_var y (xs ++ zs)) (sym next) ∙ inv y) in
+pub same_next : (xs ys more : List Var) (d : Var) (i : ℕ) (all : List Var) → i < length more → SameVars ys (xs ++ get_or more i d ∷ []) → SameVars (xs ++ drop i more) all → SameVars (ys ++ drop (i + 1) more) all
+same_next xs ys more d i all h k inv =
+    let next : drop i more ≡ get_or more i d ∷ drop (suc i) more = drop-cons more i d h in
+    let left : SameVars (ys ++ drop (suc i) more) all = same_more xs ys (get_or more i d ∷ []) (drop (suc i) more) all k (λ y. ap (λ (zs : List Var). has_var y (xs ++ zs)) (sym next) ∙ inv y) in
     λ y. ap (λ n. has_var y (ys ++ drop n more)) (add-one i) ∙ left y
 
 -- the set of what is put one behind the other
