@@ -16,6 +16,7 @@ pub mod item_flaws;
 mod marks;
 pub mod numbers;
 pub mod owned;
+mod singles;
 pub mod terms;
 pub mod text_words;
 pub mod types;

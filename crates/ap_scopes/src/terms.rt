@@ -1,93 +1,22 @@
 //! Terms with numbers for their words.
-ghost use Rattle.std.specs.Prelude.{◌≡◌, ◌<◌, IfOk, OnOk, IfSome, map};
+ghost use Rattle.std.specs.Prelude.{◌≡◌, IfOk, OnOk, map};
 ghost use Rattle.ap_defs.specs.RawTerms.{raw_of};
-ghost use Rattle.ap_defs.specs.Limits.{size_limit};
 ghost use Rattle.ap_spines.specs.Spines.{raw_within};
 ghost use Rattle.ap_trees.specs.Trees.{term_of, terms_of, trees_of, name_of_binder};
-ghost use Rattle.ap_trees.specs.Terms.{Apply, Abs, Last, More};
+ghost use Rattle.ap_trees.specs.Terms.{Apply, Pair, Cell, Abs, Last, More};
 ghost use Rattle.ap_scopes.specs.Resolution as spec;
 ghost use Rattle.ap_scopes.specs.Resolution.{made};
-ghost use Rattle.ap_scopes.specs.Declarations.{constructor_place};
 ghost use Rattle.ap_scopes.specs.Views.{IsIndexed, IsSmall, IsNumbered, declared_of, found_of, scope_of};
 
 use crate::declarations::Declarations;
 use crate::identifiers::{Brought, Identifiers};
+use crate::singles::{binder, constructor_number, identifier, word_alone};
 use ap_defs::lists::List;
 use ap_defs::memory::Memory;
-use ap_defs::terms::{Id, Name, Raw, Var};
+use ap_defs::terms::Raw;
 use ap_spines::{RawLayer, close_raw, raw_abs, raw_pair, swapping_layer};
 use ap_trees::{Application, Args, Binder, Tree};
 use std::alloc::Global;
-
-/// A binder, or a place of a swapping.
-fn binder<'a>(
-    scope: &Brought<'_, 'a>,
-    spelling: Binder<'a>,
-    found: &mut Identifiers<'a>,
-) -> Result<Id, Memory>
-    requires { IsNumbered found.old }
-    ensures value { IfOk result (λ i. (i, found_of found.new)
-        ≡ spec.binder (scope_of scope.now) (name_of_binder spelling.entry) (found_of found.old)) }
-    ensures numbered { OnOk result (IsNumbered found.new) }
-{
-    let num = found.number(scope, spelling)?;
-    match spelling {
-        Binder::Word(_) => Ok(Id::Name(Name { sort: 0, num })),
-        Binder::Var(_) => Ok(Id::Var(Var { num })),
-    }
-}
-
-/// A name or variable as a term.
-fn identifier<'a>(
-    scope: &Brought<'_, 'a>,
-    spelling: Binder<'a>,
-    found: &mut Identifiers<'a>,
-) -> Result<Raw, Memory>
-    requires { IsNumbered found.old }
-    ensures value { IfOk result (λ t. (raw_of t, found_of found.new)
-        ≡ spec.identifier (scope_of scope.now) (name_of_binder spelling.entry)
-        (found_of found.old)) }
-    ensures numbered { OnOk result (IsNumbered found.new) }
-{
-    let num = found.number(scope, spelling)?;
-    match spelling {
-        Binder::Word(_) => Ok(Raw::Name(Name { sort: 0, num })),
-        Binder::Var(_) => Ok(Raw::Var(Var { num })),
-    }
-}
-
-/// The number of the constructor at a place.
-fn constructor_number(place: Option<usize>) -> u32
-    requires { IfSome place (λ i. i < size_limit) }
-    ensures { result ≡ spec.constructor_number place }
-{
-    match place {
-        Some(place) => place as u32 + 2,
-        None => 0,
-    }
-}
-
-/// A word without parentheses.
-fn word_alone<'a>(
-    alloc: Global,
-    declared: &Declarations<'_>,
-    scope: &Brought<'_, 'a>,
-    word: &'a str,
-    found: &mut Identifiers<'a>,
-) -> Result<Raw, Memory>
-    requires indexed { IsIndexed declared.now }
-    requires small { IsSmall declared.now }
-    requires numbered { IsNumbered found.old }
-    ensures value { IfOk result (λ t. (raw_of t, found_of found.new)
-        ≡ spec.word_alone (scope_of scope.now) word.entry.now (constructor_place
-        (declared_of declared.now) word.entry.now) (found_of found.old)) }
-    ensures numbered { OnOk result (IsNumbered found.new) }
-{
-    match declared.constructor_place(word) {
-        Some(place) => Ok(Raw::App(place as u32 + 2, Box::new(alloc, Raw::Unit)?)),
-        None => identifier(scope, Binder::Word(word), found),
-    }
-}
 
 /// Whether what is last in a term goes on in the same way. It spares work alone.
 fn goes_on(tree: &Tree<'_>) -> bool {
@@ -130,8 +59,67 @@ pub fn resolved_term<'a>(
             }
             resolved_abstraction(alloc, declared, scope, **spelling, body, found)
         }
-        _ => resolved_spine(alloc, declared, scope, tree, found),
+        Tree::Pair(left, right) => {
+            if goes_on(right) {
+                return resolved_spine(alloc, declared, scope, tree, found);
+            }
+            resolved_pair(alloc, declared, scope, left, right, found)
+        }
+        Tree::Nil => Ok(Raw::App(0, Box::new(alloc, Raw::Unit)?)),
+        Tree::Cell(head, tail) => {
+            if goes_on(tail) {
+                return resolved_spine(alloc, declared, scope, tree, found);
+            }
+            resolved_cell(alloc, declared, scope, head, tail, found)
+        }
+        Tree::Swapped(_, _) => resolved_spine(alloc, declared, scope, tree, found),
     }
+}
+
+/// A pair.
+#[cycle(terms)]
+#[tactic(auto, using(crate::proofs::Orders::in_order_is))]
+fn resolved_pair<'a>(
+    alloc: Global,
+    declared: &Declarations<'_>,
+    scope: &Brought<'_, 'a>,
+    left: &Tree<'a>,
+    right: &Tree<'a>,
+    found: &mut Identifiers<'a>,
+) -> Result<Raw, Memory>
+    requires indexed { IsIndexed declared.now }
+    requires small { IsSmall declared.now }
+    requires numbered { IsNumbered found.old }
+    ensures value { IfOk result (λ t. (raw_of t, found_of found.new)
+        ≡ spec.resolved_term (declared_of declared.now) (scope_of scope.now)
+        (Pair (term_of left.now) (term_of right.now)) (found_of found.old)) }
+    ensures numbered { OnOk result (IsNumbered found.new) }
+{
+    let left = resolved_term(alloc, declared, scope, left, found)?;
+    let right = resolved_term(alloc, declared, scope, right, found)?;
+    raw_pair(alloc, left, right)
+}
+
+/// A list cell whose tail ends at once, as that of a list of one element does.
+#[cycle(terms)]
+fn resolved_cell<'a>(
+    alloc: Global,
+    declared: &Declarations<'_>,
+    scope: &Brought<'_, 'a>,
+    head: &Tree<'a>,
+    tail: &Tree<'a>,
+    found: &mut Identifiers<'a>,
+) -> Result<Raw, Memory>
+    requires indexed { IsIndexed declared.now }
+    requires small { IsSmall declared.now }
+    requires numbered { IsNumbered found.old }
+    ensures value { IfOk result (λ t. (raw_of t, found_of found.new)
+        ≡ spec.resolved_term (declared_of declared.now) (scope_of scope.now)
+        (Cell (term_of head.now) (term_of tail.now)) (found_of found.old)) }
+    ensures numbered { OnOk result (IsNumbered found.new) }
+{
+    let parts = resolved_pair(alloc, declared, scope, head, tail, found)?;
+    Ok(Raw::App(1, Box::new(alloc, parts)?))
 }
 
 /// An abstraction.

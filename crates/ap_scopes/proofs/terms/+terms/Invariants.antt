@@ -16,6 +16,12 @@ decreases-resolved_application l = 3 * terms_size (terms_of l.args.now) + 2
 abbrev pub decreases-resolved_abstraction : goal.decreases-resolved_abstraction
 decreases-resolved_abstraction l = 3 * term_size (term_of l.body.now) + 3
 
+abbrev pub decreases-resolved_pair : goal.decreases-resolved_pair
+decreases-resolved_pair l = 3 * (term_size (term_of l.left.now) + term_size (term_of l.right.now)) + 3
+
+abbrev pub decreases-resolved_cell : goal.decreases-resolved_cell
+decreases-resolved_cell l = 3 * (term_size (term_of l.head.now) + term_size (term_of l.tail.now)) + 4
+
 abbrev pub decreases-resolved_spine : goal.decreases-resolved_spine
 decreases-resolved_spine l = 3 * term_size (term_of l.tree.now) + 1
 
