@@ -1,16 +1,22 @@
 -- One step of reading a term: what is read of it where its parts are.
-use Rattle.std.proofs.Common.{◌≡◌, ◌<◌, ℕ, List, length, None, Some, refl, ap, ◌∙◌}
+use Rattle.std.proofs.Common.{◌≡◌, ◌<◌, ℕ, List, [], ◌∷◌, length, None, Some, refl, ap, ◌∙◌}
 use Rattle.std.proofs.lemmas.List.{length-map}
 use Rattle.ap_trees.specs.declared.symbols.Symbol.{Symbol}
 use Rattle.ap_trees.specs.Readers.{SymbolReader, separated, after_comma, after_lambda, after_open, after_close, after_close_list, after_bar}
-use Rattle.ap_trees.specs.Symbols.{Sym, syms, sym as symbol}
+use Rattle.ap_trees.specs.Symbols.{Sym, CloseList, syms, sym as symbol}
 use Rattle.ap_trees.specs.TermReader.{before_close, before_close_list, abstraction, list_within, application, word_term, variable, group, list_end, full_list, list_of, both_sides, swapped}
-use Rattle.ap_trees.specs.Terms.{Name, Term, OfWord, OfVar, Unit, Variable, Word, Apply, Nil, Abs, Swapped, Last, argument_terms, tuple, cells}
+use Rattle.ap_trees.specs.Terms.{Name, Term, OfWord, OfVar, Unit, Variable, Word, Apply, Nil, Abs, Swapped, Cell, Last, argument_terms, tuple, cells}
 use Rattle.ap_trees.proofs.Lists.{separated_alone, separated_fails}
 
 -- the terms with commas between, of as many symbols as the code has
 within : (read : SymbolReader Term) (xs : List Symbol) → list_within read (syms xs) ≡ separated after_comma read (length xs) (syms xs)
 within read xs = ap (λ n. separated after_comma read n (syms xs)) (length-map xs symbol)
+
+-- what closes a list is no comma and no bar
+closes_alone : (ts us : List Sym) → after_close_list ts ≡ Some us → (after_comma ts ≡ None) × (after_bar ts ≡ None)
+closes_alone [] us e = (refl, refl)
+closes_alone (CloseList ∷ ts) us e = (refl, refl)
+closes_alone (t ∷ ts) us e = cc
 
 module _ (read : SymbolReader Term) where
   pub abstraction_fails : (name : Name) (ts : List Sym) → read ts ≡ None → abstraction read name ts ≡ None
@@ -81,6 +87,17 @@ module _ (read : SymbolReader Term) where
   pub list_full : (ts : List Sym) → after_close_list ts ≡ None → list_of read ts ≡ full_list read ts
   unfolding list_of
   list_full ts none = rw none refl
+
+  pub full_none : (ts : List Sym) → read ts ≡ None → full_list read ts ≡ None
+  unfolding full_list
+  full_none ts got = rw (separated_fails after_comma read (length ts) ts got) refl
+
+  -- a list of one term
+  pub full_alone : (ts rest us : List Sym) (t : Term) → 0 < length ts → read ts ≡ Some (t, rest) → after_close_list rest ≡ Some us → full_list read ts ≡ Some (Cell t Nil, us)
+  unfolding full_list list_end
+  full_alone ts rest us t some got mark =
+      let none = closes_alone rest us mark in
+      rw (separated_alone after_comma read (length ts) ts rest t some got none.0, none.1, mark) refl
 
   pub full_fails : (xs : List Symbol) → separated after_comma read (length xs) (syms xs) ≡ None → full_list read (syms xs) ≡ None
   unfolding full_list

@@ -8,7 +8,8 @@ ghost use Rattle.ap_trees.specs.TermReader.{read_term};
 ghost use Rattle.ap_trees.specs.Trees.{term_of, trees_of, name_of_binder};
 
 use crate::building::{
-    abstracted, applied, begun, cells, closed, closed_list, sole_application, swapping, tuple,
+    abstracted, applied, begun, cells, closed, closed_list, sole_application, sole_list, swapping,
+    tuple,
 };
 use crate::cursor::{
     after_bar, after_close, after_close_list, after_comma, after_lambda, after_open,
@@ -182,7 +183,7 @@ fn list<'a, 's>(
     }
 }
 
-/// A list of one term or more, behind its bracket.
+/// A list of one term or more, behind its bracket. One of a single term takes no memory beside its parts.
 #[cycle(terms)]
 fn full_list<'a, 's>(
     alloc: Global,
@@ -192,7 +193,27 @@ fn full_list<'a, 's>(
     ensures { GivesPart (λ r. (term_of r.0, syms r.1.now)) result (spec.full_list
         (read_term levels) (syms symbols.now)) }
 {
-    let (parts, rest) = term_list(alloc, levels, symbols)?;
+    let (first, after) = any_term(alloc, levels, symbols)?;
+    match after_close_list(after) {
+        Some(rest) => sole_list(alloc, first, rest),
+        None => longer_list(alloc, levels, symbols, first, after),
+    }
+}
+
+/// A list of which more than the first term is read, behind that.
+#[cycle(terms)]
+fn longer_list<'a, 's>(
+    alloc: Global,
+    levels: usize,
+    symbols: &'s [Symbol<'a>],
+    first: Tree<'a>,
+    after: &'s [Symbol<'a>],
+) -> Result<(Tree<'a>, &'s [Symbol<'a>]), ReadError>
+    requires { read_term levels (syms symbols.now) ≡ Some (term_of first, syms after.now) }
+    ensures { GivesPart (λ r. (term_of r.0, syms r.1.now)) result (spec.full_list
+        (read_term levels) (syms symbols.now)) }
+{
+    let (parts, rest) = further_terms(alloc, levels, symbols, first, after)?;
     let (end, rest) = list_end(alloc, levels, rest)?;
     let whole = cells(alloc, parts, end)?;
     closed_list(whole, rest)

@@ -78,20 +78,34 @@ list-returns-in-Some t c = steps.list_empty (read_term c.args.levels) _ _ (sym c
 pub list-returns-in-None : goal.list-returns-in-None
 list-returns-in-None t c = gives_as _ c.full_list.result _ _ c.full_list.ensures (steps.list_full (read_term c.args.levels) (syms c.args.symbols.now) (sym c.in-None.ensures.value))
 
-pub full_list-returns-in_err-parts : goal.full_list-returns-in_err-parts
-full_list-returns-in_err-parts t c =
+pub full_list-returns-in_err-first : goal.full_list-returns-in_err-first
+full_list-returns-in_err-first t c =
     let p = err_from_is_err_and c.from_residual.result c.from_residual.ensures.1 in
-    rw (p.1, p.2) (fails_on c.in_err-parts.field-0.0 _ _ (steps.full_fails (read_term c.args.levels) c.args.symbols.now) c.in_err-parts.ensures.value)
+    rw (p.1, p.2) (fails_on c.in_err-first.field-0.0 _ _ (steps.full_none (read_term c.args.levels) (syms c.args.symbols.now)) c.in_err-first.ensures)
 
-pub full_list-returns-in_err-end : goal.full_list-returns-in_err-end
-full_list-returns-in_err-end t c =
+pub full_list-returns-in-Some : goal.full_list-returns-in-Some
+full_list-returns-in-Some t c =
+    let shorter = term_shorter c.args.levels c.args.symbols.now _ _ c.in_ok-first.ensures in
+    gives_as _ c.sole_list.result _ _ c.sole_list.ensures
+    (steps.full_alone (read_term c.args.levels) (syms c.args.symbols.now) _ _ _ (omega (arith, shorter, length-map c.args.symbols.now symbol)) c.in_ok-first.ensures (sym c.in-Some.ensures.value))
+
+pub full_list-returns-in-None : goal.full_list-returns-in-None
+full_list-returns-in-None t c = c.longer_list.ensures
+
+pub longer_list-returns-in_err-parts : goal.longer_list-returns-in_err-parts
+longer_list-returns-in_err-parts t c =
+    let p = err_from_is_err_and c.from_residual.result c.from_residual.ensures.1 in
+    rw (p.1, p.2) (fails_on c.in_err-parts.field-0.0 _ _ (steps.full_fails (read_term c.args.levels) c.args.symbols.now) c.in_err-parts.ensures)
+
+pub longer_list-returns-in_err-end : goal.longer_list-returns-in_err-end
+longer_list-returns-in_err-end t c =
     let p = err_from_is_err_and c.from_residual-in_err-end.result c.from_residual-in_err-end.ensures.1 in
-    rw (p.1, p.2) (fails_on c.in_err-end.field-0.0 _ _ (steps.full_endless (read_term c.args.levels) c.args.symbols.now _ _ c.in_ok-parts.ensures.value) c.in_err-end.ensures)
+    rw (p.1, p.2) (fails_on c.in_err-end.field-0.0 _ _ (steps.full_endless (read_term c.args.levels) c.args.symbols.now _ _ c.in_ok-parts.ensures) c.in_err-end.ensures)
 
-pub full_list-returns : goal.full_list-returns
-full_list-returns t c =
+pub longer_list-returns : goal.longer_list-returns
+longer_list-returns t c =
     gives_as _ c.closed_list.result _ _ c.closed_list.ensures
-    (steps.full_gives (read_term c.args.levels) c.args.symbols.now _ _ _ _ c.in_ok-parts.ensures.value c.in_ok-end.ensures ∙ ap (λ whole. before_close_list whole (syms c.in_ok-end.rest.now)) (sym c.in_ok-whole.ensures))
+    (steps.full_gives (read_term c.args.levels) c.args.symbols.now _ _ _ _ c.in_ok-parts.ensures c.in_ok-end.ensures ∙ ap (λ whole. before_close_list whole (syms c.in_ok-end.rest.now)) (sym c.in_ok-whole.ensures))
 
 pub list_end-returns-in-Some : goal.list_end-returns-in-Some
 list_end-returns-in-Some t c = gives_as _ c.any_term.result _ _ c.any_term.ensures (steps.end_behind (read_term c.args.levels) (syms c.args.symbols.now) _ (sym c.in-Some.ensures.value))

@@ -51,5 +51,8 @@ decreases-list l = 8 * l.levels + 4
 abbrev pub decreases-full_list : goal.decreases-full_list
 decreases-full_list l = 8 * l.levels + 3
 
+abbrev pub decreases-longer_list : goal.decreases-longer_list
+decreases-longer_list l = 8 * l.levels + 2
+
 abbrev pub decreases-swapped : goal.decreases-swapped
 decreases-swapped l = 8 * l.levels + 1
