@@ -211,8 +211,11 @@ impl<'t> Scanner<'t> {
 
     /// Whether a token that is not looked at is left out: it stands in a list, and isn't its first one.
     fn is_behind_in_list(&self) -> bool {
+        if self.lists == 0 {
+            return false;
+        }
         match self.marks.last() {
-            Some(last) => self.lists > 0 && !matches!(last.kind, Kind::OpenList),
+            Some(last) => !matches!(last.kind, Kind::OpenList),
             None => false,
         }
     }

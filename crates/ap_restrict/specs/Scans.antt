@@ -14,7 +14,7 @@ IsVerdict cs i (Some f) = IsFaultOf cs i f
 -- what is wrong with the item, or that binders and places of swappings are names
 abbrev pub IsMisplaced : List NominalConstructor → RawItem → Option (NameKind × Var) → Type 0
 IsMisplaced cs i None = HasNamesAlone i
-IsMisplaced cs i (Some (kind, x)) = IsWrong cs i kind x.num
+IsMisplaced cs i (Some p) = IsWrong cs i p.0 p.1.num
 
 -- the first fault of the items, or that all pass
 abbrev pub IsScan : List NominalConstructor → List RawItem → Option NameFault → Type 0
