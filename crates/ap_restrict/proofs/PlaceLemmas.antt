@@ -73,10 +73,9 @@ none_misplaced (raw.abs i t) e =
     let r = none_misplaced t p.1 in
     (join_none (variable_of i) (variable_binders t) p.0 r.0, r.1)
 none_misplaced (raw.swapped i j t) e =
-    let p = both_none (variable_of i) (variable_of j ++ misplaced t) e in
-    let q = both_none (variable_of j) (misplaced t) p.1 in
-    let r = none_misplaced t q.1 in
-    (r.0, join_none (variable_of i) (variable_of j ++ variable_places t) p.0 (join_none (variable_of j) (variable_places t) q.0 r.1))
+    let p = both_none (variable_of i ++ variable_of j) (misplaced t) e in
+    let r = none_misplaced t p.1 in
+    (r.0, join_none (variable_of i ++ variable_of j) (variable_places t) p.0 r.1)
 
 pub none_in_each : (ts : List RawTerm) → in_each misplaced ts ≡ [] → (in_each variable_binders ts ≡ []) × (in_each variable_places ts ≡ [])
 none_in_each [] e = (refl, refl)

@@ -1,5 +1,5 @@
 // Terms that are made of their parts, and what closes them.
-ghost use Rattle.std.specs.Prelude.{◌≡◌, [], ◌∷◌, Some, vec_len, IfOk};
+ghost use Rattle.std.specs.Prelude.{◌≡◌, [], ◌∷◌, vec_len, IfOk};
 ghost use Rattle.ap_trees.specs.Outcomes.{GivesPart};
 ghost use Rattle.ap_trees.specs.Symbols.{syms};
 ghost use Rattle.ap_trees.specs.Terms as trees;
@@ -113,17 +113,12 @@ pub(crate) fn cells<'a>(
     Ok(whole)
 }
 
-/// The list of one term, and what follows it.
-pub(crate) fn sole_list<'a, 's>(
-    alloc: Global,
-    first: Tree<'a>,
-    rest: &'s [Symbol<'a>],
-) -> Result<(Tree<'a>, &'s [Symbol<'a>]), ReadError>
-    ensures { GivesPart (λ r. (term_of r.0, syms r.1.now)) result
-        (Some (trees.Cell (term_of first.entry) trees.Nil, syms rest.now)) }
+/// The list of one term.
+pub(crate) fn sole_list<'a>(alloc: Global, first: Tree<'a>) -> Result<Tree<'a>, AllocError>
+    ensures { IfOk result (λ t. term_of t ≡ trees.Cell (term_of first.entry) trees.Nil) }
 {
     let head = Box::new(alloc, first)?;
-    Ok((Tree::Cell(head, Box::new(alloc, Tree::Nil)?), rest))
+    Ok(Tree::Cell(head, Box::new(alloc, Tree::Nil)?))
 }
 
 /// A term under a binder.

@@ -195,7 +195,10 @@ fn full_list<'a, 's>(
 {
     let (first, after) = any_term(alloc, levels, symbols)?;
     match after_close_list(after) {
-        Some(rest) => sole_list(alloc, first, rest),
+        Some(rest) => {
+            let whole = sole_list(alloc, first)?;
+            Ok((whole, rest))
+        }
         None => longer_list(alloc, levels, symbols, first, after),
     }
 }

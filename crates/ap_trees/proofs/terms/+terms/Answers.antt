@@ -83,11 +83,10 @@ full_list-returns-in_err-first t c =
     let p = err_from_is_err_and c.from_residual.result c.from_residual.ensures.1 in
     rw (p.1, p.2) (fails_on c.in_err-first.field-0.0 _ _ (steps.full_none (read_term c.args.levels) (syms c.args.symbols.now)) c.in_err-first.ensures)
 
-pub full_list-returns-in-Some : goal.full_list-returns-in-Some
-full_list-returns-in-Some t c =
+pub full_list-returns-in_ok-whole-in-Some : goal.full_list-returns-in_ok-whole-in-Some
+full_list-returns-in_ok-whole-in-Some t c =
     let shorter = term_shorter c.args.levels c.args.symbols.now _ _ c.in_ok-first.ensures in
-    gives_as _ c.sole_list.result _ _ c.sole_list.ensures
-    (steps.full_alone (read_term c.args.levels) (syms c.args.symbols.now) _ _ _ (omega (arith, shorter, length-map c.args.symbols.now symbol)) c.in_ok-first.ensures (sym c.in-Some.ensures.value))
+    rw c.in_ok-whole-in-Some.ensures (steps.full_alone (read_term c.args.levels) (syms c.args.symbols.now) _ _ _ (omega (arith, shorter, length-map c.args.symbols.now symbol)) c.in_ok-first.ensures (sym c.in-Some.ensures.value))
 
 pub full_list-returns-in-None : goal.full_list-returns-in-None
 full_list-returns-in-None t c = c.longer_list.ensures
