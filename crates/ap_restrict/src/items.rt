@@ -88,7 +88,6 @@ fn wrong_in_clause(clause: &Clause<Raw>) -> Option<(NameKind, Var)>
 }
 
 /// What is wrong with a clause's variables, if one stands where a name belongs. One walk tells that none does.
-#[tactic(auto, using(crate::proofs::ItemLemmas::none_in_item))]
 fn misplaced_in_clause(clause: &Clause<Raw>) -> Option<(NameKind, Var)>
     ensures { (cs : List NominalConstructor) →
         IsMisplaced cs (clause_item (clause_over raw_of clause.now)) result }
@@ -115,7 +114,6 @@ fn wrong_in_query(query: &Query<Raw>) -> Option<(NameKind, Var)>
 }
 
 /// What is wrong with a query's variables, likewise.
-#[tactic(auto, using(crate::proofs::ItemLemmas::none_in_item))]
 fn misplaced_in_query(query: &Query<Raw>) -> Option<(NameKind, Var)>
     ensures { (cs : List NominalConstructor) →
         IsMisplaced cs (query_item (query_over raw_of query.now)) result }

@@ -24,3 +24,8 @@ returns-in_ok-fault-in-Some-2 c =
     fault_is cs i c.in_ok-fault-in-Some-2.field-0 kinds.HeadName c.in-Some-2.a.num (locals_of c.items.result.now) (ap locals_of c.items.ensures) c.in_ok-fault-in-Some-2.ensures.place c.in_ok-fault-in-Some-2.ensures.kind c.in_ok-fault-in-Some-2.ensures.name
     (head_name c.in-Some-2.a (c.in_default.ensures cs)
     (subst (IsFirstUnfresh cs (map_clause carried_out (clause_over raw_of c.args.clause.now)) (local_names 0 (locals_of c.args.clause.now.locals))) c.in-Some-2.is c.in_ok-a.ensures))
+
+pub returns-in-None : goal.returns-in-None
+returns-in-None c =
+    let cs = map constructor_of c.args.setting.now.sig.now.constructors in
+    (c.in_default.ensures cs, subst (IsFirstUnfresh cs (map_clause carried_out (clause_over raw_of c.args.clause.now)) (local_names 0 (locals_of c.args.clause.now.locals))) c.in-None.is c.in_ok-a.ensures)

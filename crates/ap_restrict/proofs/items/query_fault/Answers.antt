@@ -12,3 +12,6 @@ returns-in-Some c =
     let i = query (query_over raw_of c.args.query.now) in
     fault_is cs i c.in_ok-fault.field-0 c.in-Some.kind c.in-Some.x.num (locals_of c.items.result.now) (ap locals_of c.items.ensures) c.in_ok-fault.ensures.place c.in_ok-fault.ensures.kind c.in_ok-fault.ensures.name
     (c.in-Some.ensures cs)
+
+pub returns : goal.returns
+returns c = (c.in_default.ensures (map constructor_of c.args.sig.now.constructors), tt)
