@@ -1,6 +1,6 @@
 //! The type equations of terms.
 
-ghost use Rattle.std.specs.Prelude.{◌≡◌, map, IfOk, IfSome, OnOk};
+ghost use Rattle.std.specs.Prelude.{◌≡◌, false, map, IfOk, IfSome, OnOk};
 ghost use Rattle.ap_defs.specs.RawTerms.{raw_of, pair as raw_pair};
 ghost use Rattle.ap_defs.specs.Types.{shape_of, type_of, constructor_of, hole, pair};
 ghost use Rattle.ap_types.specs.Growing.{is_hole};
@@ -37,7 +37,10 @@ fn result_of(constructors: &[Constructor], t: &Raw) -> Option<u32>
             None => None,
             Some(constructor) => Some(constructor.result),
         },
-        _ => None,
+        Raw::Unit | Raw::Name(_) | Raw::Var(_) | Raw::Pair(_, _) => None,
+        Raw::Under(under) => match &**under {
+            Under::Abs(_, _) | Under::Swapped(_, _) => None,
+        },
     }
 }
 
