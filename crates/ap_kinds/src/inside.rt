@@ -9,7 +9,7 @@ ghost use Rattle.ap_kinds.specs.Systems.{system_of};
 ghost use Rattle.ap_kinds.specs.Gathering.{wanting_of, whole, typed, new_element, cell_in_type, cell_wanted, inside_cell, inside_declared, inside_application, new_body, inside_abstraction};
 
 use crate::systems::{System, equate, new_hole, refuse};
-use crate::wants::{Wanted, meet, wanted_all};
+use crate::wants::{Wanted, meet, meet_list, wanted_all};
 use ap_defs::goals::Constructor;
 use ap_defs::memory::Memory;
 use ap_defs::terms::{Shape, Ty, take_abs};
@@ -29,8 +29,7 @@ fn new_element<'a>(
         ≡ (new_element (wanting_of want.entry) (system_of system.old)).system) }
 {
     let element = new_hole(system)?;
-    let list = Shape::List(Box::new(alloc, Shape::Hole(element))?);
-    meet(alloc, want, list, system)?;
+    meet_list(alloc, want, element, system)?;
     Ok(Wanted::Cell(element))
 }
 

@@ -1,7 +1,7 @@
 //! Systems of type equations, as they grow.
 
 ghost use Rattle.std.specs.Prelude.{◌≡◌, ℕ, ◌+◌, ◌++◌, ◌∷◌, [], length, IfOk, OnOk};
-ghost use Rattle.ap_defs.specs.Types.{shape_of, hole, pair};
+ghost use Rattle.ap_defs.specs.Types.{shape_of, hole, list, pair};
 ghost use Rattle.ap_kinds.specs.Gathering.{near_for};
 ghost use Rattle.ap_kinds.specs.Systems.{system_of, equate, with_name_hole, with_hole, system_refused, is_name_at, is_var_at, name_holes, started};
 
@@ -55,6 +55,23 @@ pub(crate) fn equate_sides(
     let left = Box::new(alloc, Shape::Hole(first))?;
     let right = Box::new(alloc, Shape::Hole(second))?;
     equate(system, want, Shape::Pair(left, right))
+}
+
+/// One more equation, of a shape and a list of the type of a hole.
+pub(crate) fn equate_list(
+    alloc: Global,
+    want: Shape,
+    element: u64,
+    system: &mut System,
+) -> Result<(), Memory>
+    ensures { OnOk result (system_of system.new
+        ≡ equate (shape_of want) (list (hole element)) (system_of system.old)) }
+{
+    if put_entry(&mut system.nodes, &want, Node::List(element as usize)) {
+        return Ok(());
+    }
+    let other = Shape::List(Box::new(alloc, Shape::Hole(element))?);
+    equate(system, want, other)
 }
 
 /// One more hole that must be a name type.
