@@ -62,6 +62,9 @@ opens_two_holes n idents t s m h =
           );
     }
 
+agree_self : (k : ℕ) (φ : Assign) → Agree k φ φ
+agree_self k φ x l = refl
+
 -- a hole of which the table says that it is a pair
 opens_known_pair : (n : ℕ) (idents : List IdentKind) (x y z : ℕ) (s : EquationSystem) → shape_at s.table x ≡ pair (hole y) (hole z) → IsMade n idents s
     → Opens n idents (SidesOf (whole (hole x))) s (whole (hole y)) (whole (hole z)) s
@@ -145,9 +148,6 @@ suits_all : (n : ℕ) (as' : List NominalType) (s : EquationSystem) → Suits n 
 suits_all n [] s = tt
 suits_all n (a ∷ []) s = tt
 suits_all n (a ∷ b ∷ rest) s = tt
-
-agree_self : (k : ℕ) (φ : Assign) → Agree k φ φ
-agree_self k φ x l = refl
 
 -- nothing new
 opens_same : (n : ℕ) (idents : List IdentKind) (R : Assign → Want → Want → Type 0) (s : EquationSystem) (w v : Wanting) → IsMade n idents s → Suits n w s → Suits n v s
