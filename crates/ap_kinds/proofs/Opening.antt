@@ -65,6 +65,9 @@ opens_two_holes n idents t s m h =
 agree_self : (k : ℕ) (φ : Assign) → Agree k φ φ
 agree_self k φ x l = refl
 
+same_sides : (a b c d : NominalType) → types.pair a b ≡ types.pair c d → (c ≡ a) × (d ≡ b)
+same_sides a b c d e = (let f : c ≡ a = cc in f, let g : d ≡ b = cc in g)
+
 -- a hole of which the table says that it is a pair
 opens_known_pair : (n : ℕ) (idents : List IdentKind) (x y z : ℕ) (s : EquationSystem) → shape_at s.table x ≡ pair (hole y) (hole z) → IsMade n idents s
     → Opens n idents (SidesOf (whole (hole x))) s (whole (hole y)) (whole (hole z)) s
@@ -81,10 +84,8 @@ opens_known_pair n idents x y z s e m =
       sound = λ φ f r. splits_as (φ x) (φ y) (φ z) (known φ r);
       complete = λ φ f r a b h.
           let q = split_one (φ x) a b h in
-          let both : types.pair (φ y) (φ z) ≡ types.pair q.0 q.1 = sym (known φ r) ∙ q.2 in
-          let first : q.0 ≡ φ y = cc in
-          let second : q.1 ≡ φ z = cc in
-          (φ, agree_self s.next φ, r, q.3 ∙ ap one first, q.4 ∙ ap one second);
+          let same = same_sides (φ y) (φ z) q.0 q.1 (sym (known φ r) ∙ q.2) in
+          (φ, agree_self s.next φ, r, q.3 ∙ ap one same.0, q.4 ∙ ap one same.1);
     }
 
 -- a hole of which the table says what data type it is
