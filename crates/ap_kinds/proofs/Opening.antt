@@ -65,7 +65,7 @@ opens_two_holes n idents t s m h =
 agree_self : (k : ℕ) (φ : Assign) → Agree k φ φ
 agree_self k φ x l = refl
 
-same_sides : (a b c d : NominalType) → types.pair a b ≡ types.pair c d → (c ≡ a) × (d ≡ b)
+same_sides : (a b c d : NominalType) → ◌≡◌ {A = NominalType} (types.pair a b) (types.pair c d) → (c ≡ a) × (d ≡ b)
 same_sides a b c d e = (let f : c ≡ a = cc in f, let g : d ≡ b = cc in g)
 
 -- a hole of which the table says that it is a pair
