@@ -205,19 +205,38 @@ opens_one n cs idents R s s1 s2 w t past o g = record {
       (b.0, agree_on s.next s1.next φ a.0 b.0 o.grows.next a.1 b.1, b.2);
 }
 
+-- The same where nothing is asked of a left want that a term can't have.
+pub record OpensFor (n : ℕ) (idents : List IdentKind) (Q R : Assign → Want → Want → Type 0) (s : EquationSystem) (w v : Wanting) (s' : EquationSystem) : Type 0 where
+  pub made : IsMade n idents s'
+  pub grows : Grows n s s'
+  pub left : Suits n w s'
+  pub right : Suits n v s'
+  pub sound : (φ : Assign) → Fits n idents φ → Meets n φ s' → R φ (want_by φ w) (want_by φ v)
+  pub complete : (φ : Assign) → Fits n idents φ → Meets n φ s → (a b : Want) → Q φ a b → R φ a b → (ψ : Assign) × Agree s.next φ ψ × Meets n ψ s' × (a ≡ want_by ψ w) × (b ≡ want_by ψ v)
+
+pub opens_for : (n : ℕ) (idents : List IdentKind) (Q R : Assign → Want → Want → Type 0) (s s' : EquationSystem) (w v : Wanting) → Opens n idents R s w v s' → OpensFor n idents Q R s w v s'
+opens_for n idents Q R s s' w v o = record {
+  made = o.made;
+  grows = o.grows;
+  left = o.left;
+  right = o.right;
+  sound = o.sound;
+  complete = λ φ f m a b q r. o.complete φ f m a b r;
+}
+
 -- two terms inside
-pub opens_two : (n : ℕ) (cs : List NominalConstructor) (idents : List IdentKind) (R : Assign → Want → Want → Type 0) (s s1 s2 s3 : EquationSystem) (w v : Wanting) (t u : RawTerm)
-    → length idents ≤ s.next → Opens n idents R s w v s1 → Gathers n idents (λ φ. TypedBy cs idents φ t (want_by φ w)) s1 s2
-    → Gathers n idents (λ φ. TypedBy cs idents φ u (want_by φ v)) s2 s3
+pub opens_two_for : (n : ℕ) (cs : List NominalConstructor) (idents : List IdentKind) (Q R : Assign → Want → Want → Type 0) (s s1 s2 s3 : EquationSystem) (w v : Wanting) (t u : RawTerm)
+    → ((φ : Assign) (a b : Want) → TypedBy cs idents φ t a → Q φ a b) → length idents ≤ s.next → OpensFor n idents Q R s w v s1
+    → Gathers n idents (λ φ. TypedBy cs idents φ t (want_by φ w)) s1 s2 → Gathers n idents (λ φ. TypedBy cs idents φ u (want_by φ v)) s2 s3
     → Gathers n idents (λ φ. (a : Want) × (b : Want) × R φ a b × TypedBy cs idents φ t a × TypedBy cs idents φ u b) s s3
-opens_two n cs idents R s s1 s2 s3 w v t u past o g h = record {
+opens_two_for n cs idents Q R s s1 s2 s3 w v t u possible past o g h = record {
   made = h.made;
   grows = grows_on n s s1 s3 o.grows (grows_on n s1 s2 s3 g.grows h.grows);
   sound = λ φ f m.
       let m1 = h.grows.back φ m in
       (want_by φ w, want_by φ v, o.sound φ f (g.grows.back φ m1), g.sound φ f m1, h.sound φ f m);
   complete = λ φ f m k.
-      let a = o.complete φ f m k.0 k.1 k.2 in
+      let a = o.complete φ f m k.0 k.1 (possible φ k.0 k.1 k.3) k.2 in
       let same = below_idents (length idents) s.next φ a.0 past a.1 in
       let f1 = fits_same n idents φ a.0 same f in
       let b = g.complete a.0 f1 a.2 (typed_same cs idents φ a.0 t k.0 (want_by a.0 w) same a.3 k.3) in
@@ -229,14 +248,22 @@ opens_two n cs idents R s s1 s2 s3 w v t u past o g h = record {
       (c.0, agree_on s.next s1.next φ a.0 c.0 o.grows.next a.1 (agree_on s1.next s2.next a.0 b.0 c.0 g.grows.next b.1 c.1), c.2);
 }
 
+pub opens_two : (n : ℕ) (cs : List NominalConstructor) (idents : List IdentKind) (R : Assign → Want → Want → Type 0) (s s1 s2 s3 : EquationSystem) (w v : Wanting) (t u : RawTerm)
+    → length idents ≤ s.next → Opens n idents R s w v s1 → Gathers n idents (λ φ. TypedBy cs idents φ t (want_by φ w)) s1 s2
+    → Gathers n idents (λ φ. TypedBy cs idents φ u (want_by φ v)) s2 s3
+    → Gathers n idents (λ φ. (a : Want) × (b : Want) × R φ a b × TypedBy cs idents φ t a × TypedBy cs idents φ u b) s s3
+opens_two n cs idents R s s1 s2 s3 w v t u past o g h =
+    let Q = λ (φ : Assign) (a b : Want). Unit {0} in
+    opens_two_for n cs idents Q R s s1 s2 s3 w v t u (λ φ a b k. tt) past (opens_for n idents Q R s s1 w v o) g h
+
 -- the same by another relation
-pub opens_map : (n : ℕ) (idents : List IdentKind) (R Q : Assign → Want → Want → Type 0) (s s' : EquationSystem) (w v : Wanting)
-    → ((φ : Assign) (a b : Want) → R φ a b → Q φ a b) → ((φ : Assign) (a b : Want) → Q φ a b → R φ a b) → Opens n idents R s w v s' → Opens n idents Q s w v s'
-opens_map n idents R Q s s' w v to from o = record {
+pub opens_for_map : (n : ℕ) (idents : List IdentKind) (P R Q : Assign → Want → Want → Type 0) (s s' : EquationSystem) (w v : Wanting)
+    → ((φ : Assign) (a b : Want) → R φ a b → Q φ a b) → ((φ : Assign) (a b : Want) → Q φ a b → R φ a b) → OpensFor n idents P R s w v s' → OpensFor n idents P Q s w v s'
+opens_for_map n idents P R Q s s' w v to from o = record {
   made = o.made;
   grows = o.grows;
   left = o.left;
   right = o.right;
   sound = λ φ f m. to φ (want_by φ w) (want_by φ v) (o.sound φ f m);
-  complete = λ φ f m a b q. o.complete φ f m a b (from φ a b q);
+  complete = λ φ f m a b p q. o.complete φ f m a b p (from φ a b q);
 }

@@ -1,5 +1,5 @@
 -- What a typed term of each form is wanted as.
-use Rattle.std.proofs.Common.{◌≡◌, ◌<◌, ℕ, zero, suc, ◌⊎◌, inl, inr, List, [], ◌∷◌, refl, sym, ap, subst, arith, Option, Some, None}
+use Rattle.std.proofs.Common.{◌≡◌, ◌<◌, ℕ, zero, suc, ◌⊎◌, ◌∙◌, inl, inr, List, [], ◌∷◌, refl, sym, ap, subst, arith, Option, Some, None}
 use Rattle.ap_defs.specs.declared.terms.Name.{Name}
 use Rattle.ap_defs.specs.declared.terms.Var.{Var}
 use Rattle.ap_defs.specs.declared.terms.Id.{Id}
@@ -9,6 +9,9 @@ use Rattle.ap_defs.specs.Types.{NominalType, NominalKind, NominalConstructor, un
 use Rattle.ap_defs.specs.Typing.{Want, nothing, one, more, arguments, IsApplication}
 use Rattle.ap_defs.specs.Printing.{constructor_in}
 use Rattle.ap_program.specs.RawTyping.{IsNameOf, IsVarOf, IsOfSort, AreOfOneSort, IsTypedRaw}
+use Rattle.ap_kinds.specs.Gathering.{result_in, result_of}
+use Rattle.ap_kinds.specs.Sorts.{with_sorts}
+use Rattle.ap_kinds.proofs.Lookups.{constructor_low}
 
 pub typed_name : (cs : List NominalConstructor) (ks : List NominalKind) (a : Name) (w : Want) → IsTypedRaw cs ks (raw.name a) w → (s : ℕ) × (w ≡ one (names s)) × IsNameOf ks a s
 typed_name cs ks a (one (names s)) h = (s, refl, h)
@@ -97,3 +100,28 @@ pub typed_unit : (cs : List NominalConstructor) (ks : List NominalKind) (w : Wan
 typed_unit cs ks nothing h = inl refl
 typed_unit cs ks (one unit) h = inr refl
 typed_unit cs ks _ h = absurd h
+
+-- what a term can be wanted as by its data type, if it has one
+abbrev pub IsOf : Option ℕ → Want → Type 0
+IsOf None a = Unit {0}
+IsOf (Some d) a = a ≡ one (base d)
+
+of_none : (o : Option NominalConstructor) (a : Want) → o ≡ None → IsOf (result_in o) a
+of_none o a e = subst (λ (p : Option NominalConstructor). IsOf (result_in p) a) (sym e) tt
+
+of_declared : (o : Option NominalConstructor) (a v : Want) (d : ℕ) → a ≡ one (base d) → Declares o (base d) v → IsOf (result_in o) a
+of_declared None a v d e h = absurd h
+of_declared (Some c) a v d e h = e ∙ ap one h.0
+
+pub typed_of : (cs : List NominalConstructor) (ks : List NominalKind) (t : RawTerm) (a : Want) → IsTypedRaw cs ks (with_sorts ks t) a → IsOf (result_of cs t) a
+typed_of cs ks (raw.app zero t) a h = of_none (constructor_in cs 0) a (constructor_low cs 0 (omega arith))
+typed_of cs ks (raw.app (suc zero) t) a h = of_none (constructor_in cs 1) a (constructor_low cs 1 (omega arith))
+typed_of cs ks (raw.app (suc (suc f)) t) a h =
+    let k = typed_app cs ks f (with_sorts ks t) a h in
+    of_declared (constructor_in cs (suc (suc f))) a k.1 k.0 k.2 k.3
+typed_of cs ks raw.unit a h = tt
+typed_of cs ks (raw.name b) a h = tt
+typed_of cs ks (raw.var x) a h = tt
+typed_of cs ks (raw.pair t u) a h = tt
+typed_of cs ks (raw.abs i t) a h = tt
+typed_of cs ks (raw.swapped i j t) a h = tt

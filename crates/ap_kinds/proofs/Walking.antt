@@ -14,13 +14,13 @@ use Rattle.ap_program.specs.RawTyping.{IsTypedRaw}
 use Rattle.ap_kinds.specs.declared.kinds.IdentKind.{IdentKind}
 use Rattle.ap_kinds.specs.Sorts.{id_with_sort, name_with_sort, with_sorts}
 use Rattle.ap_kinds.specs.Systems.{EquationSystem, system_refused, is_name_at, is_var_at}
-use Rattle.ap_kinds.specs.Gathering.{Wanting, nothing, meet, meet_unit, meet_swapped, sides, inside_cell, inside_declared, inside_abstraction, name_place, one_sort, gather_term}
+use Rattle.ap_kinds.specs.Gathering.{Wanting, nothing, meet, meet_unit, meet_swapped, result_of, sides, inside_cell, inside_declared, inside_abstraction, name_place, one_sort, gather_term}
 use Rattle.ap_kinds.proofs.Assignments.{Assign}
 use Rattle.ap_kinds.proofs.IdentLemmas.{kinds_by, name_number, var_number, name_of_sort, sort_of_name, own_name, var_of_type, type_of_var}
-use Rattle.ap_kinds.proofs.Inversions.{Splits, typed_name, typed_var, typed_pair, pair_typed, typed_nil, typed_cell, typed_app, app_typed, typed_abs, typed_swapped, typed_unit}
-use Rattle.ap_kinds.proofs.Gathers.{IsMade, Suits, want_by, suits_grows, want_same, below_idents, Gathers, gathers_map, gathers_refused, gathers_then, TypedBy, typed_same, opens_one, opens_two}
+use Rattle.ap_kinds.proofs.Inversions.{Splits, typed_name, typed_var, typed_pair, pair_typed, typed_nil, typed_cell, typed_app, app_typed, typed_abs, typed_swapped, typed_unit, typed_of}
+use Rattle.ap_kinds.proofs.Gathers.{IsMade, Suits, want_by, suits_grows, want_same, below_idents, Gathers, gathers_map, gathers_refused, gathers_then, TypedBy, typed_same, opens_one, opens_two_for}
 use Rattle.ap_kinds.proofs.Steps.{hole_shape, gathers_meet, gathers_unit, gathers_swapped}
-use Rattle.ap_kinds.proofs.Opening.{opens_sides, CellOf, NilOf, DeclaredOf, opens_cell, opens_nil, opens_declared}
+use Rattle.ap_kinds.proofs.Opening.{LeftOf, opens_sides, CellOf, NilOf, DeclaredOf, opens_cell, opens_nil, opens_declared}
 use Rattle.ap_kinds.proofs.Binding.{BodyOf, opens_abstraction, OneSort, gathers_one_sort}
 
 -- the term is what is wanted
@@ -80,10 +80,11 @@ gathers_term n cs idents raw.unit w s m h = wants_unit n cs idents w s m h
 gathers_term n cs idents (raw.name a) w s m h = wants_name n cs idents a w s (is_name_at idents a.num) refl m h
 gathers_term n cs idents (raw.var x) w s m h = wants_var n cs idents x w s (is_var_at idents x.num) refl m h
 gathers_term n cs idents (raw.pair t u) w s m h =
-    let o = opens_sides n idents w s m h in
-    let s1 = (sides w s).system in
-    let l = (sides w s).left in
-    let r = (sides w s).right in
+    let d = result_of cs t in
+    let o = opens_sides n idents d w s m h in
+    let s1 = (sides d w s).system in
+    let l = (sides d w s).left in
+    let r = (sides d w s).right in
     let s2 = gather_term cs idents t l s1 in
     let g = gathers_term n cs idents t l s1 o.made o.left in
     let k = gathers_term n cs idents u r s2 g.made (suits_grows n r s1 s2 g.grows o.right) in
@@ -91,7 +92,7 @@ gathers_term n cs idents (raw.pair t u) w s m h =
     s (gather_term cs idents u r s2)
     (λ φ f i z. pair_typed cs (kinds_by φ idents) (with_sorts (kinds_by φ idents) t) (with_sorts (kinds_by φ idents) u) (want_by φ w) z.0 z.1 z.2 z.3 z.4)
     (λ φ f i z. typed_pair cs (kinds_by φ idents) (with_sorts (kinds_by φ idents) t) (with_sorts (kinds_by φ idents) u) (want_by φ w) z)
-    (opens_two n cs idents (λ φ a b. Splits (want_by φ w) a b) s s1 s2 (gather_term cs idents u r s2) l r t u m.past o g k)
+    (opens_two_for n cs idents (LeftOf d) (λ φ a b. Splits (want_by φ w) a b) s s1 s2 (gather_term cs idents u r s2) l r t u (λ φ a b i. typed_of cs (kinds_by φ idents) t a i) m.past o g k)
 gathers_term n cs idents (raw.app zero t) w s m h =
     let o = opens_nil n idents w s m h in
     let s1 = (inside_cell w s).system in

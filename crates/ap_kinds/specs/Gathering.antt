@@ -9,7 +9,8 @@ use Rattle.ap_defs.specs.Types as types
 use Rattle.ap_defs.specs.Goals.{GoalOver, succeed, atom, equal, fresh, both, either, exists, new}
 use Rattle.ap_defs.specs.Printing.{constructor_in}
 use Rattle.ap_types.specs.Equations.{ShapeEquation, ◌≐◌}
-use Rattle.ap_types.specs.Growing.{is_same}
+use Rattle.ap_types.specs.Solving.{shape_at}
+use Rattle.ap_types.specs.Growing.{is_same, pair_in, list_in, near_base}
 use Rattle.ap_program.specs.Typed.{predicate_at}
 use Rattle.ap_kinds.specs.declared.kinds.IdentKind.{IdentKind}
 use Rattle.ap_kinds.specs.declared.wants.Wanted.{Wanted}
@@ -119,22 +120,52 @@ pub record Sides : Type 0 where
   pub right : Wanting
   pub system : EquationSystem
 
-abbrev pub new_sides : TypeShape → EquationSystem → Sides
-new_sides w s = record {
+-- the data type of a term, if it is an application of a declared constructor
+abbrev pub result_in : Option NominalConstructor → Option ℕ
+result_in None = None
+result_in (Some c) = Some c.result
+
+abbrev pub result_of : List NominalConstructor → RawTerm → Option ℕ
+result_of cs (raw.app f t) = result_in (constructor_in cs f)
+result_of cs t = None
+
+-- a hole of which the table says that it is of that data type
+abbrev pub near_for : List TypeShape → Option ℕ → Option ℕ
+near_for ts None = None
+near_for ts (Some d) = near_base ts d
+
+-- the left side is such a hole, or a new one
+abbrev pub new_sides_at : Option ℕ → TypeShape → EquationSystem → Sides
+new_sides_at (Some x) w s = record {
+  left = whole (hole x);
+  right = whole (hole s.next);
+  system = equate w (pair (hole x) (hole s.next)) (with_hole s);
+}
+new_sides_at None w s = record {
   left = whole (hole s.next);
   right = whole (hole (s.next + 1));
   system = equate w (pair (hole s.next) (hole (s.next + 1))) (with_hole (with_hole s));
 }
 
-abbrev pub sides : Wanting → EquationSystem → Sides
-sides (whole (pair a b)) s = record { left = whole a; right = whole b; system = s }
-sides (whole w) s = new_sides w s
-sides (typed (types.pair a b)) s = record { left = typed a; right = typed b; system = s }
-sides (typed a) s = new_sides (shape_of_type a) s
-sides nothing s = record { left = nothing; right = nothing; system = system_refused s }
-sides (more a rest) s = record { left = typed a; right = wanting_all rest; system = s }
-sides (cell x) s = record { left = whole (hole x); right = whole (list (hole x)); system = s }
-sides (typed_cell a) s = record { left = typed a; right = typed (types.list a); system = s }
+abbrev pub new_sides : Option ℕ → TypeShape → EquationSystem → Sides
+new_sides d w s = new_sides_at (near_for s.table d) w s
+
+-- the sides of the hole, if the table says that it is a pair
+abbrev pub sides_of_hole : Option ℕ → ℕ → Option (ℕ × ℕ) → EquationSystem → Sides
+sides_of_hole d x (Some p) s = record { left = whole (hole p.0); right = whole (hole p.1); system = s }
+sides_of_hole d x None s = new_sides d (hole x) s
+
+-- of a pair whose left side has the data type d, if it is known to have one
+abbrev pub sides : Option ℕ → Wanting → EquationSystem → Sides
+sides d (whole (pair a b)) s = record { left = whole a; right = whole b; system = s }
+sides d (whole (hole x)) s = sides_of_hole d x (pair_in (shape_at s.table x)) s
+sides d (whole w) s = new_sides d w s
+sides d (typed (types.pair a b)) s = record { left = typed a; right = typed b; system = s }
+sides d (typed a) s = new_sides d (shape_of_type a) s
+sides d nothing s = record { left = nothing; right = nothing; system = system_refused s }
+sides d (more a rest) s = record { left = typed a; right = wanting_all rest; system = s }
+sides d (cell x) s = record { left = whole (hole x); right = whole (list (hole x)); system = s }
+sides d (typed_cell a) s = record { left = typed a; right = typed (types.list a); system = s }
 
 -- What is wanted of the term inside an application or an abstraction.
 pub record Inside : Type 0 where
@@ -144,11 +175,21 @@ pub record Inside : Type 0 where
 abbrev pub new_element : Wanting → EquationSystem → Inside
 new_element w s = record { want = cell s.next; system = meet w (list (hole s.next)) (with_hole s) }
 
--- what is wanted of the parts of a list cell, where a list of a type or of the type of a hole is wanted
-abbrev pub cell_wanted : Wanting → Option Wanting
-cell_wanted (whole (list (hole x))) = Some (cell x)
-cell_wanted (typed (types.list a)) = Some (typed_cell a)
-cell_wanted _ = None
+abbrev pub cell_if : Option ℕ → Option Wanting
+cell_if (Some x) = Some (cell x)
+cell_if None = None
+
+abbrev pub cell_in_type : NominalType → Option Wanting
+cell_in_type (types.list a) = Some (typed_cell a)
+cell_in_type _ = None
+
+-- what is wanted of the parts of a list cell, where a list of a type or of the type of a hole is wanted, or a hole of which the table says that
+-- it is a list of the type of a hole
+abbrev pub cell_wanted : List TypeShape → Wanting → Option Wanting
+cell_wanted ts (whole (list (hole x))) = Some (cell x)
+cell_wanted ts (whole (hole x)) = cell_if (list_in (shape_at ts x))
+cell_wanted ts (typed a) = cell_in_type a
+cell_wanted ts _ = None
 
 abbrev pub inside_element : Option Wanting → Wanting → EquationSystem → Inside
 inside_element (Some v) w s = record { want = v; system = s }
@@ -156,7 +197,7 @@ inside_element None w s = new_element w s
 
 -- what is wanted of the two parts of a list cell
 abbrev pub inside_cell : Wanting → EquationSystem → Inside
-inside_cell w s = inside_element (cell_wanted w) w s
+inside_cell w s = inside_element (cell_wanted s.table w) w s
 
 abbrev pub inside_declared : Option NominalConstructor → Wanting → EquationSystem → Inside
 inside_declared None w s = record { want = nothing; system = system_refused s }
@@ -179,14 +220,16 @@ inside_abstraction n w s = new_body n w s
 -- a list cell of the constructor where the one is wanted: the other is wanted of its element, and the one again of its tail
 abbrev pub IsCellWanted : ℕ → Wanting → Wanting → Type 0
 IsCellWanted f w v =
-    (cs : List NominalConstructor) (s : EquationSystem) → sides (inside_application cs f w s).want (inside_application cs f w s).system ≡ record { left = v; right = w; system = s }
+    (cs : List NominalConstructor) (d : Option ℕ) (s : EquationSystem)
+    → sides d (inside_application cs f w s).want (inside_application cs f w s).system ≡ record { left = v; right = w; system = s }
 
 abbrev pub gather_term : List NominalConstructor → List IdentKind → RawTerm → Wanting → EquationSystem → EquationSystem
 gather_term cs idents raw.unit w s = meet_unit w s
 gather_term cs idents (raw.name a) w s = meet_name idents a.num w s
 gather_term cs idents (raw.var x) w s = meet_var idents x.num w s
 gather_term cs idents (raw.pair t u) w s =
-    gather_term cs idents u (sides w s).right (gather_term cs idents t (sides w s).left (sides w s).system)
+    gather_term cs idents u (sides (result_of cs t) w s).right
+    (gather_term cs idents t (sides (result_of cs t) w s).left (sides (result_of cs t) w s).system)
 gather_term cs idents (raw.app f t) w s =
     gather_term cs idents t (inside_application cs f w s).want (inside_application cs f w s).system
 gather_term cs idents (raw.abs i t) w s =

@@ -2,16 +2,19 @@
 
 ghost use Rattle.std.specs.Prelude.{◌≡◌, map, IfOk, OnOk, MatchOption, Some, None};
 ghost use Rattle.std.specs.Option.{option_map};
-ghost use Rattle.ap_defs.specs.Types.{shape_of, type_of, constructor_of};
+ghost use Rattle.ap_defs.specs.Types.{shape_of, type_of, constructor_of, hole};
 ghost use Rattle.ap_defs.specs.Printing.{constructor_in};
+ghost use Rattle.ap_types.specs.Triangular.{shapes_of_nodes};
 ghost use Rattle.ap_kinds.specs.Systems.{system_of};
-ghost use Rattle.ap_kinds.specs.Gathering.{wanting_of, whole, typed, new_element, cell_wanted, inside_cell, inside_declared, inside_application, new_body, inside_abstraction};
+ghost use Rattle.ap_kinds.specs.Gathering.{wanting_of, whole, typed, new_element, cell_in_type, cell_wanted, inside_cell, inside_declared, inside_application, new_body, inside_abstraction};
 
 use crate::systems::{System, equate, new_hole, refuse};
-use crate::wants::{Wanted, meet, wanted_all};
+use crate::wants::{Wanted, meet, meet_list, wanted_all};
 use ap_defs::goals::Constructor;
 use ap_defs::memory::Memory;
 use ap_defs::terms::{Shape, Ty, take_abs};
+use ap_types::growing::list_at;
+use ap_types::nodes::Node;
 use std::alloc::Global;
 
 /// What is wanted of the parts of a list cell with elements of a new hole.
@@ -26,16 +29,28 @@ fn new_element<'a>(
         ≡ (new_element (wanting_of want.entry) (system_of system.old)).system) }
 {
     let element = new_hole(system)?;
-    let list = Shape::List(Box::new(alloc, Shape::Hole(element))?);
-    meet(alloc, want, list, system)?;
+    meet_list(alloc, want, element, system)?;
     Ok(Wanted::Cell(element))
 }
 
-/// What is wanted of the parts of a list cell, where a list of the type of a hole is wanted.
-fn hole_cell<'a>(want: &Shape) -> Option<Wanted<'a>>
-    ensures { option_map wanting_of result ≡ cell_wanted (whole (shape_of want.now)) }
+/// What is wanted of the parts of a list cell, where a hole is wanted.
+fn known_cell<'a>(nodes: &[Node], x: u64) -> Option<Wanted<'a>>
+    ensures { option_map wanting_of result
+        ≡ cell_wanted (shapes_of_nodes nodes.now) (whole (hole x)) }
+{
+    match list_at(nodes, x as usize) {
+        Some(element) => Some(Wanted::Cell(element as u64)),
+        None => None,
+    }
+}
+
+/// What is wanted of the parts of a list cell, where a list of the type of a hole is wanted, or a hole.
+fn hole_cell<'a>(nodes: &[Node], want: &Shape) -> Option<Wanted<'a>>
+    ensures { option_map wanting_of result
+        ≡ cell_wanted (shapes_of_nodes nodes.now) (whole (shape_of want.now)) }
 {
     match want {
+        Shape::Hole(x) => known_cell(nodes, *x),
         Shape::List(element) => match &**element {
             Shape::Hole(x) => Some(Wanted::Cell(*x)),
             _ => None,
@@ -46,7 +61,7 @@ fn hole_cell<'a>(want: &Shape) -> Option<Wanted<'a>>
 
 /// What is wanted of the parts of a list cell, where a list of a type is wanted.
 fn type_cell<'a>(want: &'a Ty) -> Option<Wanted<'a>>
-    ensures { option_map wanting_of result ≡ cell_wanted (typed (type_of want.now)) }
+    ensures { option_map wanting_of result ≡ cell_in_type (type_of want.now) }
 {
     match want {
         Ty::List(element) => Some(Wanted::TypeCell(element)),
@@ -54,15 +69,16 @@ fn type_cell<'a>(want: &'a Ty) -> Option<Wanted<'a>>
     }
 }
 
-/// What is wanted of the parts of a list cell, where a list of a type or of the type of a hole is wanted.
-fn cell_wanted<'a>(want: &Wanted<'a>) -> Option<Wanted<'a>>
-    ensures { option_map wanting_of result ≡ cell_wanted (wanting_of want.now) }
+/// What is wanted of the parts of a list cell, where a list of a type or of the type of a hole is wanted, or a hole.
+fn cell_wanted<'a>(nodes: &[Node], want: &Wanted<'a>) -> Option<Wanted<'a>>
+    ensures { option_map wanting_of result
+        ≡ cell_wanted (shapes_of_nodes nodes.now) (wanting_of want.now) }
 {
     match want {
         Wanted::ListOfHole(x) => Some(Wanted::Cell(*x)),
         Wanted::ListOf(t) => Some(Wanted::TypeCell(*t)),
         Wanted::Type(t) => type_cell(*t),
-        Wanted::Whole(shape) => hole_cell(shape),
+        Wanted::Whole(shape) => hole_cell(nodes, shape),
         _ => None,
     }
 }
@@ -78,7 +94,7 @@ fn inside_cell<'a>(
     ensures system { OnOk result (system_of system.new
         ≡ (inside_cell (wanting_of want.entry) (system_of system.old)).system) }
 {
-    match cell_wanted(&want) {
+    match cell_wanted(system.nodes.as_slice(), &want) {
         Some(cell) => Ok(cell),
         None => new_element(alloc, want, system),
     }
@@ -86,7 +102,7 @@ fn inside_cell<'a>(
 
 /// The declared constructor with a number, of which 0 and 1 are none.
 #[tactic(auto, using(crate::proofs::Lookups::constructor_found, crate::proofs::Lookups::constructor_low, crate::proofs::Lookups::constructor_past))]
-fn declared_at(constructors: &[Constructor], f: u32) -> Option<&Constructor>
+pub(crate) fn declared_at(constructors: &[Constructor], f: u32) -> Option<&Constructor>
     ensures { MatchOption result (constructor_in (map constructor_of constructors.now) f ≡ None) (λ c.
         constructor_in (map constructor_of constructors.now) f ≡ Some (constructor_of c.now)) }
 {

@@ -1,13 +1,14 @@
 //! Systems of type equations, as they grow.
 
 ghost use Rattle.std.specs.Prelude.{◌≡◌, ℕ, ◌+◌, ◌++◌, ◌∷◌, [], length, IfOk, OnOk};
-ghost use Rattle.ap_defs.specs.Types.{shape_of, hole, pair};
+ghost use Rattle.ap_defs.specs.Types.{shape_of, hole, list, pair};
+ghost use Rattle.ap_kinds.specs.Gathering.{near_for};
 ghost use Rattle.ap_kinds.specs.Systems.{system_of, equate, with_name_hole, with_hole, system_refused, is_name_at, is_var_at, name_holes, started};
 
 use crate::kinds::IdentKind;
 use ap_defs::memory::Memory;
 use ap_defs::terms::Shape;
-use ap_types::growing::{open_table, put_entry, put_equation};
+use ap_types::growing::{near_base, open_table, put_entry, put_equation};
 use ap_types::nodes::Node;
 use std::alloc::Global;
 
@@ -56,6 +57,23 @@ pub(crate) fn equate_sides(
     equate(system, want, Shape::Pair(left, right))
 }
 
+/// One more equation, of a shape and a list of the type of a hole.
+pub(crate) fn equate_list(
+    alloc: Global,
+    want: Shape,
+    element: u64,
+    system: &mut System,
+) -> Result<(), Memory>
+    ensures { OnOk result (system_of system.new
+        ≡ equate (shape_of want) (list (hole element)) (system_of system.old)) }
+{
+    if put_entry(&mut system.nodes, &want, Node::List(element as usize)) {
+        return Ok(());
+    }
+    let other = Shape::List(Box::new(alloc, Shape::Hole(element))?);
+    equate(system, want, other)
+}
+
 /// One more hole that must be a name type.
 pub(crate) fn add_name(system: &mut System, x: u64) -> Result<(), Memory>
     ensures { OnOk result (system_of system.new ≡ with_name_hole x (system_of system.old)) }
@@ -80,6 +98,19 @@ pub(crate) fn new_hole(system: &mut System) -> Result<u64, Memory>
     system.nodes.push(Node::Place(place))?;
     system.next = hole + 1;
     Ok(hole)
+}
+
+/// A hole of which it is said already that it is of a data type, if one is given.
+pub(crate) fn near_hole(system: &System, base: Option<u32>) -> Option<u64>
+    ensures { result ≡ near_for (system_of system.now).table base }
+{
+    match base {
+        None => None,
+        Some(base) => match near_base(system.nodes.as_slice(), base) {
+            None => None,
+            Some(place) => Some(place as u64),
+        },
+    }
 }
 
 /// An equation that nothing solves.

@@ -8,7 +8,7 @@ ghost use Rattle.ap_kinds.specs.Gathering.{wanting_of, wanting_all, ends_between
 
 use crate::kinds::IdentKind;
 use crate::shapes::opened;
-use crate::systems::{System, equate, is_name_at, is_var_at, refuse};
+use crate::systems::{System, equate, equate_list, is_name_at, is_var_at, refuse};
 use ap_defs::memory::Memory;
 use ap_defs::terms::{Shape, Ty};
 use std::alloc::Global;
@@ -161,6 +161,39 @@ pub(crate) fn meet(
             equate_others(wanted, shape, system)
         }
         _ => refuse(system),
+    }
+}
+
+/// A shape and a list of the type of a hole become the same. That takes no box where the table says what an open hole is.
+#[tactic(auto, using(crate::proofs::LastLemmas::list_others))]
+fn equate_other_list(
+    alloc: Global,
+    want: Shape,
+    element: u64,
+    system: &mut System,
+) -> Result<(), Memory>
+    ensures { OnOk result (system_of system.new
+        ≡ equate_others (shape_of want) (list (hole element)) (system_of system.old)) }
+{
+    equate_list(alloc, want, element, system)
+}
+
+/// A list of the type of a hole stands where something is wanted.
+pub(crate) fn meet_list(
+    alloc: Global,
+    want: Wanted<'_>,
+    element: u64,
+    system: &mut System,
+) -> Result<(), Memory>
+    ensures { OnOk result (system_of system.new
+        ≡ meet (wanting_of want.entry) (list (hole element)) (system_of system.old)) }
+{
+    match want {
+        Wanted::Whole(wanted) => equate_other_list(alloc, wanted, element, system),
+        other => {
+            let shape = list_of_hole(alloc, element)?;
+            meet(alloc, other, shape, system)
+        }
     }
 }
 

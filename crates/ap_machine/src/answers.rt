@@ -16,7 +16,7 @@ use crate::chains::closed;
 use crate::looks::Look;
 use crate::renaming::vars_of_locals;
 use crate::unbound::unbound_of;
-use crate::vars::{add_vars_of_conds, add_vars_of_terms, make_ascending};
+use crate::vars::{add_vars, add_vars_of_conds, add_vars_of_terms, make_ascending};
 use ap_defs::copies::copy_type;
 use ap_defs::goals::{Kind, Local};
 use ap_defs::lists::List;
@@ -40,7 +40,7 @@ fn vars_among(
     let mut vars = Vec::new(alloc);
     add_vars_of_terms(alloc, &mut vars, binds)?;
     add_vars_of_conds(&mut vars, conds)?;
-    vars.extend_from_slice(others)?;
+    add_vars(&mut vars, others)?;
     make_ascending(&mut vars);
     Ok(vars)
 }

@@ -171,21 +171,22 @@ fn unseen_end(bytes: &[u8], start: usize) -> usize {
     end
 }
 
-/// Whether a token is looked at that stands in a list behind its first one: a bracket, a binder, or a variable that may
-/// stand once.
+/// Whether a token is looked at that stands in a list behind its first one: a parenthesis, a binder, or a variable that
+/// may stand once. Brackets of lists in such a place are left out with what closes them.
 fn counts_in_list(kind: Kind) -> bool {
     !matches!(kind, Kind::Word | Kind::Comma | Kind::Other)
 }
 
 /// What finds the tokens of one item after another, each at once. Of what stands in a list it keeps no more than
-/// warnings look at: the first token, brackets, and variables that may stand once.
+/// warnings look at: the first token, parentheses, and variables that may stand once.
 #[derive(Drop)]
 pub(crate) struct Scanner<'t> {
     bytes: &'t [u8],
     // the tokens of the item that are kept, without its `.`
     marks: Vec<Mark>,
-    // how many lists are open
+    // how many lists are open, and of how many of these, the outermost ones, the brackets are kept
     lists: usize,
+    kept: usize,
 }
 
 impl<'t> Scanner<'t> {
@@ -195,6 +196,7 @@ impl<'t> Scanner<'t> {
             bytes: text.as_bytes(),
             marks: Vec::new(alloc),
             lists: 0,
+            kept: 0,
         }
     }
 
@@ -207,24 +209,42 @@ impl<'t> Scanner<'t> {
     pub(crate) fn begin_item(&mut self) {
         self.marks.clear();
         self.lists = 0;
+        self.kept = 0;
     }
 
-    /// Whether a token that is not looked at is left out: it stands in a list, and isn't its first one.
+    /// Whether a token that is not looked at is left out: it stands in a list, and isn't its first one, or in a list that
+    /// stands in another.
     fn is_behind_in_list(&self) -> bool {
+        if self.lists != 1 {
+            return self.lists > 1;
+        }
         match self.marks.last() {
-            Some(last) => self.lists > 0 && !matches!(last.kind, Kind::OpenList),
+            Some(last) => !matches!(last.kind, Kind::OpenList),
             None => false,
         }
     }
 
     /// Keeps a sign.
     fn keep_sign(&mut self, kind: Kind, place: usize) -> Result<(), Memory> {
+        let behind = self.is_behind_in_list();
         match kind {
-            Kind::OpenList => self.lists = self.lists.saturating_add(1),
-            Kind::CloseList => self.lists = self.lists.saturating_sub(1),
+            Kind::OpenList => {
+                self.lists = self.lists.saturating_add(1);
+                if behind {
+                    return Ok(());
+                }
+                self.kept = self.kept.saturating_add(1);
+            }
+            Kind::CloseList => {
+                self.lists = self.lists.saturating_sub(1);
+                if self.lists >= self.kept {
+                    return Ok(());
+                }
+                self.kept = self.kept.saturating_sub(1);
+            }
             _ => {}
         }
-        if counts_in_list(kind) || !self.is_behind_in_list() {
+        if counts_in_list(kind) || !behind {
             self.marks
                 .push(Mark::of(kind, place, place.saturating_add(1)))?;
         }

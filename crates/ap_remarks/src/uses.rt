@@ -152,8 +152,22 @@ impl<'t> Uses<'t> {
         Ok(Some(Head::of(predicate, arguments, !singles.is_empty())))
     }
 
+    /// The place of a predicate among those that are called. It is seen at once where it is that of the call before, as in
+    /// long conjunctions it often is.
+    fn place_called(&mut self, word: &'t str) -> Result<usize, Memory> {
+        if let Some(last) = self.calls.last() {
+            if let Some(known) = self.called.as_slice().get(last.predicate) {
+                if *known == word {
+                    return Ok(last.predicate);
+                }
+            }
+        }
+        let (predicate, _new) = self.called.insert_full(word)?;
+        Ok(predicate)
+    }
+
     fn add_call(&mut self, marks: &[Mark], word: usize) -> Result<(), Memory> {
-        let (predicate, _new) = self.called.insert_full(text_at(self.text, marks, word))?;
+        let predicate = self.place_called(text_at(self.text, marks, word))?;
         self.calls.push(Call {
             predicate,
             token: word,

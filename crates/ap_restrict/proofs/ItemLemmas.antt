@@ -13,8 +13,10 @@ use Rattle.ap_program.specs.CarryingOut.{carried_out, map_clause, map_goal}
 use Rattle.ap_defs.specs.declared.faults.NameFault.{NameFault}
 use Rattle.ap_defs.specs.declared.faults.NameKind.{NameKind}
 use Rattle.ap_defs.specs.declared.faults.NameKind.TheVariants as kinds
-use Rattle.ap_program.specs.NameRestriction.{RawItem, item_place, item_locals, binders_in, places_in, HasNamesAlone, IsWrong, variable_binder, variable_swap, IsFaultOf, spelling_at, IsFirst, AreFreshForHead, IsFirstNotFresh}
-use Rattle.ap_restrict.specs.Places.{first_var}
+use Rattle.ap_program.specs.NameRestriction.{RawItem, in_each, item_terms, item_place, item_locals, binders_in, places_in, HasNamesAlone, IsWrong, variable_binder, variable_swap, IsFaultOf, spelling_at, IsFirst, AreFreshForHead, IsFirstNotFresh}
+use Rattle.ap_restrict.specs.Places.{first_var, misplaced, variables_at}
+use Rattle.ap_restrict.specs.declared.places.NamePlace.TheVariants as places
+use Rattle.ap_restrict.proofs.PlaceLemmas.{none_in_each}
 use Rattle.ap_restrict.specs.Heads.{IsFirstUnfresh, clause_of_head}
 
 pub spelled_past : (ls : List Local) (n : ℕ) → length ls ≤ n → spelling_at (locals_of ls) n ≡ []
@@ -79,6 +81,9 @@ swap_is cs i x b e = variable_swap x (is_none (binders_in i) b) (is_first x (pla
 
 pub names_alone : (i : RawItem) → None ≡ first_var (binders_in i) → None ≡ first_var (places_in i) → HasNamesAlone i
 names_alone i b e = (is_none (binders_in i) b, is_none (places_in i) e)
+
+pub none_in_item : (i : RawItem) → None ≡ first_var (in_each (variables_at places.Any) (item_terms i)) → HasNamesAlone i
+none_in_item i e = none_in_each (item_terms i) (is_none (in_each misplaced (item_terms i)) e)
 
 pub carried_result : {E : Type 0} (cs : List NominalConstructor) (c : ClauseOver RawTerm) (args : List NominalTerm) (body : NominalGoal) (locals : List NominalLocal) (r : Result (Option Name) E)
     → args ≡ (map_clause carried_out c).args → body ≡ map_goal carried_out c.body → locals ≡ c.locals

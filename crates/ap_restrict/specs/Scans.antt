@@ -2,12 +2,19 @@
 use Rattle.std.specs.Prelude.{if◌then◌else◌, nat_lt, List, Option, Some, None}
 use Rattle.ap_defs.specs.Types.{NominalConstructor}
 use Rattle.ap_defs.specs.declared.faults.NameFault.{NameFault}
-use Rattle.ap_program.specs.NameRestriction.{RawItem, Passes, AllPass, IsFaultOf, IsFirstFault}
+use Rattle.ap_defs.specs.declared.faults.NameKind.{NameKind}
+use Rattle.ap_defs.specs.declared.terms.Var.{Var}
+use Rattle.ap_program.specs.NameRestriction.{RawItem, HasNamesAlone, IsWrong, Passes, AllPass, IsFaultOf, IsFirstFault}
 
 -- the item's fault, or that it passes
 abbrev pub IsVerdict : List NominalConstructor → RawItem → Option NameFault → Type 0
 IsVerdict cs i None = Passes cs i
 IsVerdict cs i (Some f) = IsFaultOf cs i f
+
+-- what is wrong with the item, or that binders and places of swappings are names
+abbrev pub IsMisplaced : List NominalConstructor → RawItem → Option (NameKind × Var) → Type 0
+IsMisplaced cs i None = HasNamesAlone i
+IsMisplaced cs i (Some p) = IsWrong cs i p.0 p.1.num
 
 -- the first fault of the items, or that all pass
 abbrev pub IsScan : List NominalConstructor → List RawItem → Option NameFault → Type 0

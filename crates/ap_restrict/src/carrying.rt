@@ -39,6 +39,14 @@ fn goes_on(t: &Raw) -> bool {
     }
 }
 
+/// Whether a list goes on behind a cell, by the argument of the cell. It spares work alone.
+fn has_more(argument: &Raw) -> bool {
+    match argument {
+        Raw::Pair(_, rest) => goes_on(rest),
+        _ => true,
+    }
+}
+
 /// A term with its swappings carried out, under further ones.
 ///
 /// It calls itself on arguments of constructors, left parts of pairs and inside swappings alone, but for what
@@ -52,7 +60,7 @@ fn carry_under(alloc: Global, swaps: &Swaps, t: &Raw) -> Result<Term, Memory>
         Raw::Name(a) => Ok(Term::Name(image(swaps.items(), *a))),
         Raw::Var(x) => waiting(swaps, *x),
         Raw::App(f, argument) => {
-            if *f == 1 {
+            if *f == 1 && has_more(argument) {
                 return carry_spine(alloc, swaps, t);
             }
             let argument = carry_under(alloc, swaps, argument)?;

@@ -1,15 +1,15 @@
 //! The fault of one clause or query.
 
-ghost use Rattle.std.specs.Prelude.{◌≡◌, ◌++◌, map, IfOk};
+ghost use Rattle.std.specs.Prelude.{◌≡◌, ◌++◌, List, map, IfOk};
 ghost use Rattle.ap_defs.specs.RawTerms.{raw_of};
-ghost use Rattle.ap_defs.specs.Types.{locals_of, signature_of};
+ghost use Rattle.ap_defs.specs.Types.{NominalConstructor, locals_of, signature_of};
 ghost use Rattle.ap_defs.specs.Goals.{clause_over, query_over};
 ghost use Rattle.ap_defs.specs.Renaming.{local_names};
 ghost use Rattle.ap_program.specs.CarryingOut.{carried_out, map_clause};
 ghost use Rattle.ap_program.specs.NameRestriction.{RawItem, clause as clause_item, query as query_item, item_terms, in_each, spelling_at};
 ghost use Rattle.ap_restrict.specs.Places.{first_var, variables_at};
 ghost use Rattle.ap_restrict.specs.Heads.{AreTables, IsFirstUnfresh};
-ghost use Rattle.ap_restrict.specs.Scans.{IsVerdict};
+ghost use Rattle.ap_restrict.specs.Scans.{IsMisplaced, IsVerdict};
 
 use crate::carrying::{carry_goal, carry_terms};
 use crate::heads::{Head, Setting, count_free_names, first_not_fresh};
@@ -72,6 +72,58 @@ fn first_in_clause(place: NamePlace, clause: &Clause<Raw>) -> Option<Var>
     }
 }
 
+/// What is wrong with a clause's variables, by a search for binders and one for swappings.
+#[tactic(auto, using(crate::proofs::ItemLemmas::names_alone, crate::proofs::ItemLemmas::binder_is, crate::proofs::ItemLemmas::swap_is))]
+fn wrong_in_clause(clause: &Clause<Raw>) -> Option<(NameKind, Var)>
+    ensures { (cs : List NominalConstructor) →
+        IsMisplaced cs (clause_item (clause_over raw_of clause.now)) result }
+{
+    match first_in_clause(NamePlace::Binder, clause) {
+        Some(x) => Some((NameKind::VariableBinder, x)),
+        None => match first_in_clause(NamePlace::Swap, clause) {
+            Some(y) => Some((NameKind::VariableSwap, y)),
+            None => None,
+        },
+    }
+}
+
+/// What is wrong with a clause's variables, if one stands where a name belongs. One walk tells that none does.
+fn misplaced_in_clause(clause: &Clause<Raw>) -> Option<(NameKind, Var)>
+    ensures { (cs : List NominalConstructor) →
+        IsMisplaced cs (clause_item (clause_over raw_of clause.now)) result }
+{
+    match first_in_clause(NamePlace::Any, clause) {
+        None => None,
+        Some(_) => wrong_in_clause(clause),
+    }
+}
+
+/// What is wrong with a query's variables, by a search for binders and one for swappings.
+#[tactic(auto, using(crate::proofs::ItemLemmas::names_alone, crate::proofs::ItemLemmas::binder_is, crate::proofs::ItemLemmas::swap_is))]
+fn wrong_in_query(query: &Query<Raw>) -> Option<(NameKind, Var)>
+    ensures { (cs : List NominalConstructor) →
+        IsMisplaced cs (query_item (query_over raw_of query.now)) result }
+{
+    match first_in_goal(NamePlace::Binder, &query.goal) {
+        Some(x) => Some((NameKind::VariableBinder, x)),
+        None => match first_in_goal(NamePlace::Swap, &query.goal) {
+            Some(y) => Some((NameKind::VariableSwap, y)),
+            None => None,
+        },
+    }
+}
+
+/// What is wrong with a query's variables, likewise.
+fn misplaced_in_query(query: &Query<Raw>) -> Option<(NameKind, Var)>
+    ensures { (cs : List NominalConstructor) →
+        IsMisplaced cs (query_item (query_over raw_of query.now)) result }
+{
+    match first_in_goal(NamePlace::Any, &query.goal) {
+        None => None,
+        Some(_) => wrong_in_query(query),
+    }
+}
+
 /// The first free name of a clause that is not fresh for its head, once swappings are carried out. Where
 /// no name is free, nothing needs to be carried out.
 fn head_name(
@@ -114,11 +166,8 @@ pub fn clause_fault(
         },
         locals: clause.locals.items(),
     };
-    if let Some(x) = first_in_clause(NamePlace::Binder, clause) {
-        return Ok(Some(fault(alloc, &position, NameKind::VariableBinder, x.num)?));
-    }
-    if let Some(y) = first_in_clause(NamePlace::Swap, clause) {
-        return Ok(Some(fault(alloc, &position, NameKind::VariableSwap, y.num)?));
+    if let Some((kind, x)) = misplaced_in_clause(clause) {
+        return Ok(Some(fault(alloc, &position, kind, x.num)?));
     }
     match head_name(alloc, setting, clause)? {
         Some(a) => Ok(Some(fault(alloc, &position, NameKind::HeadName, a.num)?)),
@@ -142,11 +191,8 @@ pub fn query_fault(
         },
         locals: query.locals.items(),
     };
-    if let Some(x) = first_in_goal(NamePlace::Binder, &query.goal) {
-        return Ok(Some(fault(alloc, &position, NameKind::VariableBinder, x.num)?));
-    }
-    if let Some(y) = first_in_goal(NamePlace::Swap, &query.goal) {
-        return Ok(Some(fault(alloc, &position, NameKind::VariableSwap, y.num)?));
+    if let Some((kind, x)) = misplaced_in_query(query) {
+        return Ok(Some(fault(alloc, &position, kind, x.num)?));
     }
     Ok(None)
 }

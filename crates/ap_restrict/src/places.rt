@@ -6,16 +6,17 @@ ghost use Rattle.std.specs.Prelude.{◌≡◌, ◌++◌, map};
 ghost use Rattle.ap_defs.specs.RawTerms.{raw_of};
 ghost use Rattle.ap_defs.specs.Goals.{goal_over};
 ghost use Rattle.ap_program.specs.NameRestriction.{variable_of, variable_binders, variable_places, terms_of_goal, in_each};
-ghost use Rattle.ap_restrict.specs.Places.{first_var, variables_at};
+ghost use Rattle.ap_restrict.specs.Places.{first_var, misplaced, variables_at};
 
 use ap_defs::goals::Goal;
 use ap_defs::terms::{Id, Raw, Under, Var};
 
-/// A place where a name belongs: the binder of an abstraction, or one of the two of a swapping.
+/// A place where a name belongs: the binder of an abstraction, one of the two of a swapping, or any of these.
 #[derive(Clone, Copy)]
 pub enum NamePlace {
     Binder,
     Swap,
+    Any,
 }
 
 /// The first variable of two words.
@@ -85,6 +86,36 @@ fn first_place(t: &Raw) -> Option<Var>
     }
 }
 
+/// The first variable that stands where a name belongs in a term, in the order of the text.
+#[tactic(auto, using(crate::proofs::PlaceLemmas::first_append))]
+fn first_misplaced(t: &Raw) -> Option<Var>
+    ensures { result ≡ first_var (misplaced (raw_of t.now)) }
+{
+    let mut rest = t;
+    loop {
+        match rest {
+            Raw::Unit | Raw::Name(_) | Raw::Var(_) => return None,
+            Raw::Pair(left, right) => {
+                if let Some(x) = first_misplaced(left) {
+                    return Some(x);
+                }
+                rest = right;
+            }
+            Raw::App(_, argument) => rest = argument,
+            Raw::Under(under) => match &**under {
+                Under::Abs(Id::Var(x), _) => return Some(*x),
+                Under::Abs(Id::Name(_), body) => rest = body,
+                Under::Swapped(places, body) => {
+                    if let Some(x) = first_variable(places.left, places.right) {
+                        return Some(x);
+                    }
+                    rest = body;
+                }
+            },
+        }
+    }
+}
+
 /// The first variable at such a place of a term, in the order of the text.
 fn first_in_term(place: NamePlace, t: &Raw) -> Option<Var>
     ensures { result ≡ first_var (variables_at place (raw_of t.now)) }
@@ -92,6 +123,7 @@ fn first_in_term(place: NamePlace, t: &Raw) -> Option<Var>
     match place {
         NamePlace::Binder => first_binder(t),
         NamePlace::Swap => first_place(t),
+        NamePlace::Any => first_misplaced(t),
     }
 }
 

@@ -182,7 +182,10 @@ impl Types {
         }
         let first = self.shape(left);
         let second = self.shape(right);
-        if is_open(first) && second != Shape::Open && may_become(first, second) {
+        if first == Shape::Open && second == Shape::Open {
+            // The later one leads to the earlier one, so that links stay short where one type meets many.
+            Step::Binds(left.max(right), left.min(right))
+        } else if is_open(first) && second != Shape::Open && may_become(first, second) {
             Step::Binds(left, right)
         } else if is_open(second) && may_become(second, first) {
             Step::Binds(right, left)

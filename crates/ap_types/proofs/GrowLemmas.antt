@@ -1,5 +1,5 @@
 -- Tables that take in one equation after another.
-use Rattle.std.proofs.Common.{◌≡◌, ◌<◌, ◌≤◌, ◌+◌, ◌⊎◌, ◌↔◌, ◌∙◌, ℕ, zero, suc, Bool, true, false, List, [], ◌∷◌, ◌++◌, length, set, Option, Some, None, refl, sym, ap, inl, inr, subst, arith, eqb-true}
+use Rattle.std.proofs.Common.{◌≡◌, ◌<◌, ◌≤◌, ◌+◌, ◌-◌, ◌⊎◌, ◌↔◌, ◌∙◌, ℕ, zero, suc, Bool, true, false, List, [], ◌∷◌, ◌++◌, length, set, Option, Some, None, refl, sym, ap, inl, inr, subst, arith, eqb-true}
 use Rattle.std.specs.Prelude.{◌==◌, ◌&&◌, nat_lt, nat_le, if◌then◌else◌, slice_index_or}
 use Rattle.std.proofs.Math.Seq.{get_or-append_seam}
 use Rattle.std.proofs.lemmas.Bool.{and_parts}
@@ -12,7 +12,7 @@ use Rattle.ap_types.specs.Equations.{◌≐◌, Filling, filled, bound_of}
 use Rattle.ap_types.specs.Solving.{shape_at}
 use Rattle.ap_types.specs.Triangular.{layer_of, shapes_of_nodes, Fits, IsFormed, AreFormed}
 use Rattle.ap_types.specs.Joining.{ArePairsWithin, LoadsAll}
-use Rattle.ap_types.specs.Growing.{open_table, is_same, is_hole, is_flat, is_below, can_stand, is_open_hole, put_at, put_hole, first_table, with_same, so_far, with_equation}
+use Rattle.ap_types.specs.Growing.{open_table, is_same, is_hole, is_flat, is_below, can_stand, is_open_hole, put_at, put_hole, first_table, with_same, so_far, with_equation, pair_in, list_in, near_of, near_base}
 use Rattle.ap_types.proofs.TableLemmas.{compare_numbers, at_set_same, at_set_other, at_past, length_set, length_table, table_push, table_set, form_more}
 use Rattle.ap_types.proofs.LinkLemmas.{equal_or_not, set_formed}
 use Rattle.ap_types.proofs.FillLemmas.{fits_without, fits_with}
@@ -195,6 +195,43 @@ far_filled f ts (base d) k = refl
 far_filled f ts (pair t u) k = refl
 far_filled f ts (list t) k = refl
 far_filled f ts (abs t u) k = refl
+
+-- Places that are a pair or a list.
+pub pair_is : (t : TypeShape) (p : ℕ × ℕ) → pair_in t ≡ Some p → t ≡ pair (hole p.0) (hole p.1)
+pair_is (pair (hole x) (hole y)) p e = let i : ◌≡◌ {A = ℕ × ℕ} (x, y) p = cc in ap (λ (q : ℕ × ℕ). pair (hole q.0) (hole q.1)) i
+pair_is _ p e = cc
+
+pub list_is : (t : TypeShape) (x : ℕ) → list_in t ≡ Some x → t ≡ list (hole x)
+list_is (list (hole y)) x e = let i : y ≡ x = cc in ap (λ z. list (hole z)) i
+list_is _ x e = cc
+
+-- Places of a data type.
+near_here : (ts : List TypeShape) (d e y p : ℕ) (b : Bool) → (e == d) ≡ b → shape_at ts y ≡ base e → (if b then Some y else None) ≡ Some p → shape_at ts p ≡ base d
+near_here ts d e y p true q h s = let i : y ≡ p = cc in subst (λ x. shape_at ts x ≡ base d) i (h ∙ ap base (eqb-true e d q))
+near_here ts d e y p false q h s = let n : ◌≡◌ {A = Option ℕ} None (Some p) = s in absurd (cc)
+
+near_left : (ts : List TypeShape) (d x p : ℕ) (b : Bool) → is_same (shape_at ts x) (base d) ≡ b → (if b then Some x else None) ≡ Some p → shape_at ts p ≡ base d
+near_left ts d x p true q s = let i : x ≡ p = cc in subst (λ y. shape_at ts y ≡ base d) i (same_shapes (shape_at ts x) (base d) q)
+near_left ts d x p false q s = let n : ◌≡◌ {A = Option ℕ} None (Some p) = s in absurd (cc)
+
+near_entry : (ts : List TypeShape) (d y p : ℕ) (t : TypeShape) → shape_at ts y ≡ t → near_of ts d y t ≡ Some p → shape_at ts p ≡ base d
+near_entry ts d y p (base e) h s = near_here ts d e y p (e == d) refl h s
+near_entry ts d y p (pair (hole x) u) h s = near_left ts d x p (is_same (shape_at ts x) (base d)) refl s
+near_entry ts d y p _ h s = cc
+
+pub near_is : (ts : List TypeShape) (d p : ℕ) → near_base ts d ≡ Some p → shape_at ts p ≡ base d
+near_is ts d p s = near_entry ts d (length ts - 2) p (shape_at ts (length ts - 2)) refl s
+
+-- such a place is one of the table
+pub base_below : (ts : List TypeShape) (d p : ℕ) → shape_at ts p ≡ base d → p < length ts
+base_below ts d p h =
+    elim (compare_numbers p (length ts)) [
+      | inl l ↦ l
+      | inr k ↦
+          let past : length ts ≤ p = elim k [ inl e ↦ omega (arith, e) | inr g ↦ omega (arith, g) ] in
+          let o : hole p ≡ base d = sym (at_past ts p past) ∙ h in
+          absurd (cc)
+    ]
 
 -- The table with an equation.
 pub record TakesIn (ts : List TypeShape) (t u : TypeShape) (us : List TypeShape) : Type 0 where

@@ -1,5 +1,5 @@
 -- Tables that take in one equation after another, where it says what a hole is.
-use Rattle.std.specs.Prelude.{ℕ, zero, suc, Bool, true, false, ◌==◌, ◌&&◌, nat_lt, nat_le, if◌then◌else◌, List, [], ◌∷◌, ◌++◌, length, slice_set, Option, Some, None}
+use Rattle.std.specs.Prelude.{ℕ, zero, suc, ◌-◌, Bool, true, false, ◌==◌, ◌&&◌, nat_lt, nat_le, if◌then◌else◌, List, [], ◌∷◌, ◌++◌, length, slice_set, Option, Some, None}
 use Rattle.ap_defs.specs.Types.{TypeShape, hole, unit, names, base, pair, list, abs}
 use Rattle.ap_types.specs.Equations.{ShapeEquation, ◌≐◌, Filling, FillingSolves, GivesNames}
 use Rattle.ap_types.specs.Solving.{shape_at}
@@ -81,6 +81,30 @@ with_same ts t u = if is_same t u then Some ts else first_table (put_hole ts t u
 abbrev pub so_far : List TypeShape → TypeShape → TypeShape
 so_far ts (hole x) = shape_at ts x
 so_far ts t = t
+
+-- the sides of a pair whose parts are holes
+abbrev pub pair_in : TypeShape → Option (ℕ × ℕ)
+pair_in (pair (hole x) (hole y)) = Some (x, y)
+pair_in t = None
+
+-- the hole of a list's elements
+abbrev pub list_in : TypeShape → Option ℕ
+list_in (list (hole x)) = Some x
+list_in t = None
+
+-- whether the table says of place x that it is of the data type d
+abbrev pub is_base_at : List TypeShape → ℕ → ℕ → Bool
+is_base_at ts d x = is_same (shape_at ts x) (base d)
+
+-- place y, where t stands, if that is the data type d; or the left side of t, if t is a pair and the table says so of that side
+abbrev pub near_of : List TypeShape → ℕ → ℕ → TypeShape → Option ℕ
+near_of ts d y (base e) = if e == d then Some y else None
+near_of ts d y (pair (hole x) u) = if is_base_at ts d x then Some x else None
+near_of ts d y t = None
+
+-- a place of which the table says that it is of the data type d, by its last place but one
+abbrev pub near_base : List TypeShape → ℕ → Option ℕ
+near_base ts d = near_of ts d (length ts - 2) (shape_at ts (length ts - 2))
 
 -- The table that says besides that two shapes are the same, if one can: of what is said of the left one so far and of the right one one is
 -- put for the other.

@@ -4,7 +4,7 @@ ghost use Rattle.std.specs.Prelude.{◌≡◌, ℕ, true, false, None, Some, Mat
 ghost use Rattle.ap_defs.specs.Types.{shape_of, hole, pair};
 ghost use Rattle.ap_types.specs.Solving.{shape_at};
 ghost use Rattle.ap_types.specs.Triangular.{layer_of, shapes_of_nodes};
-ghost use Rattle.ap_types.specs.Growing.{open_table, is_same, is_flat, can_stand, is_open_hole, put_hole, with_same, so_far, with_equation};
+ghost use Rattle.ap_types.specs.Growing.{open_table, is_same, is_flat, can_stand, is_open_hole, put_hole, with_same, so_far, with_equation, pair_in, list_in, is_base_at, near_of, near_base};
 
 use crate::nodes::Node;
 use ap_defs::memory::Memory;
@@ -82,6 +82,76 @@ fn so_far(nodes: &[Node], t: &Shape) -> Option<Node>
         Shape::Hole(x) => Some(entry_or_hole(nodes, *x as usize)),
         _ => entry_of_holes(t),
     }
+}
+
+/// The sides of an entry that is a pair.
+fn pair_in(entry: Node) -> Option<(usize, usize)>
+    ensures { result ≡ pair_in (layer_of entry) }
+{
+    match entry {
+        Node::Pair(left, right) => Some((left, right)),
+        _ => None,
+    }
+}
+
+/// The sides of the pair that a place is, if a table says that it is one.
+pub fn pair_at(nodes: &[Node], x: usize) -> Option<(usize, usize)>
+    ensures { result ≡ pair_in (shape_at (shapes_of_nodes nodes.now) x) }
+{
+    let entry = entry_or_hole(nodes, x);
+    pair_in(entry)
+}
+
+/// The element of an entry that is a list.
+fn list_in(entry: Node) -> Option<usize>
+    ensures { result ≡ list_in (layer_of entry) }
+{
+    match entry {
+        Node::List(element) => Some(element),
+        _ => None,
+    }
+}
+
+/// The element of the list that a place is, if a table says that it is one.
+pub fn list_at(nodes: &[Node], x: usize) -> Option<usize>
+    ensures { result ≡ list_in (shape_at (shapes_of_nodes nodes.now) x) }
+{
+    let entry = entry_or_hole(nodes, x);
+    list_in(entry)
+}
+
+/// Whether a table says of a place that it is of a data type.
+fn is_base_at(nodes: &[Node], base: u32, x: usize) -> bool
+    ensures { result ≡ is_base_at (shapes_of_nodes nodes.now) base x }
+{
+    is_same(entry_or_hole(nodes, x), Node::Base(base))
+}
+
+/// A place with an entry, if that is a data type; or the left side of the entry, if that is a pair whose left side is of
+/// the data type.
+fn near_of(nodes: &[Node], base: u32, place: usize, entry: Node) -> Option<usize>
+    ensures { result ≡ near_of (shapes_of_nodes nodes.now) base place (layer_of entry) }
+{
+    match entry {
+        Node::Base(other) => { if other == base { Some(place) } else { None } }
+        Node::Pair(left, _) => {
+            if is_base_at(nodes, base, left) {
+                Some(left)
+            } else {
+                None
+            }
+        }
+        _ => None,
+    }
+}
+
+/// A place of which a table says that it is of a data type, by its last place but one.
+pub fn near_base(nodes: &[Node], base: u32) -> Option<usize>
+    ensures { result ≡ near_base (shapes_of_nodes nodes.now) base }
+{
+    let place = nodes.len().saturating_sub(2);
+    let entry = entry_or_hole(nodes, place);
+    near_of(nodes, base, place, entry)
 }
 
 /// Whether two entries have no parts and are the same.

@@ -1,0 +1,8 @@
+use Rattle.ap_defs.specs.RawTerms.{raw_of}
+use Rattle.ap_defs.specs.Goals.{clause_over}
+use Rattle.ap_program.specs.NameRestriction.{clause}
+use Rattle.ap_restrict.proofs.ItemLemmas.{none_in_item}
+use Rattle.ap_restrict.proofs.items.misplaced_in_clause.Goals as goal
+
+pub returns-in-None : goal.returns-in-None
+returns-in-None c cs = none_in_item (clause (clause_over raw_of c.args.clause.now)) c.in-None.ensures
