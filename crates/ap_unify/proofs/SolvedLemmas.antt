@@ -1,5 +1,5 @@
 -- Equations of suspensions that were solved stay so, and nothing is left of them.
-use Rattle.std.proofs.Common.{◌≡◌, ◌==◌, ◌&&◌, ◌<◌, ◌≤◌, ◌+◌, Bool, true, ℕ, zero, suc, List, [], ◌∷◌, ◌++◌, get_or, inl, inr, length, map, refl, reverse, sym, subst, ap, ◌∙◌, ◌↔◌, arith}
+use Rattle.std.proofs.Common.{◌≡◌, ◌==◌, ◌&&◌, ◌<◌, ◌≤◌, ◌+◌, Bool, true, ℕ, zero, suc, List, [], ◌∷◌, ◌++◌, get_or, inr, length, map, refl, reverse, sym, subst, ap, ◌∙◌, ◌↔◌, arith}
 use Rattle.std.proofs.lemmas.Bool.Decides.{Decides-eqb}
 use Rattle.std.proofs.lemmas.List.{length-map, length-reverse}
 use Rattle.std.specs.Prelude.{Some, slice_get, slice_set}

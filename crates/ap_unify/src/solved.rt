@@ -1,6 +1,6 @@
 //! Equations of two suspensions that were solved in this run, so that nothing is left of them.
 
-ghost use Rattle.std.specs.Prelude.{◌≡◌, ◌<◌, ◌≤◌, ◌∷◌, ◌++◌, [], true, IfOk, OnOk, Some, length, slice_get, slice_set};
+ghost use Rattle.std.specs.Prelude.{◌≡◌, ◌==◌, ◌<◌, ◌≤◌, ◌+◌, ◌%◌, ◌^◌, ◌∷◌, ◌++◌, [], true, IfOk, OnOk, Some, length, slice_get, slice_set};
 ghost use Rattle.ap_defs.specs.Freshness.{var_eq};
 ghost use Rattle.ap_defs.specs.Substitution.{◌≐◌};
 ghost use Rattle.ap_defs.specs.Terms.{act_term, susp};
@@ -47,12 +47,14 @@ pub struct Solved {
 }
 
 impl Solved {
+    ghost use Rattle.std.specs.Prelude.{◌≡◌, false, true};
     ghost use Rattle.ap_defs.specs.Unification.{Stage};
     ghost use Rattle.ap_unify.specs.Solved.{AreSolved};
 
     /// Nothing is known. It takes no memory.
     pub fn new(alloc: Global) -> Solved
-        ensures { (r : Stage) → AreSolved r result }
+        ensures solved { (r : Stage) → AreSolved r result }
+        ensures noting { result.is_noting ≡ true }
     {
         Solved {
             is_noting: true,
@@ -65,7 +67,8 @@ impl Solved {
 
     /// Nothing is known, and nothing will be noted. It takes no memory.
     pub fn without_notes(alloc: Global) -> Solved
-        ensures { (r : Stage) → AreSolved r result }
+        ensures solved { (r : Stage) → AreSolved r result }
+        ensures noting { result.is_noting ≡ false }
     {
         Solved {
             is_noting: false,
@@ -228,7 +231,9 @@ fn note(
 
 /// Counts an equation that is not known, and tells whether it is to be noted.
 fn is_turn(solved: &mut Solved) -> bool
-    ensures { (r : Stage) → AreSolved r solved.old → AreSolved r solved.new }
+    ensures turn { result ≡ (solved.new.met % 16 == 0) }
+    ensures met { solved.new.met ≡ (solved.old.met + 1) % 2 ^ 64 }
+    ensures solved { (r : Stage) → AreSolved r solved.old → AreSolved r solved.new }
 {
     solved.met = solved.met.wrapping_add(1);
     solved.met % ONE_IN == 0
