@@ -1,8 +1,8 @@
 //! What was seen of the variables that were brought.
 
-ghost use Rattle.std.specs.Prelude.{◌≡◌, ◌+◌, ◌<◌, ◌≤◌, [], IfOk, List as list, length, take};
+ghost use Rattle.std.specs.Prelude.{◌≡◌, ◌+◌, ◌-◌, ◌<◌, ◌≤◌, ◌||◌, [], IfOk, List as list, length, nat_lt, take};
 ghost use Rattle.ap_store.specs.Triples.{Triple};
-ghost use Rattle.ap_store.specs.Views.{versions};
+ghost use Rattle.ap_store.specs.Views.{past, versions};
 ghost use Rattle.ap_machine.specs.Looks.{HasLooked};
 ghost use Rattle.ap_machine.specs.declared.brought.Brought.{Brought as ranges};
 
@@ -55,7 +55,10 @@ impl Look {
     }
 
     /// Whether an answer looks at many ranges or variables.
-    pub fn is_long(&self, brought: usize) -> bool {
+    pub fn is_long(&self, brought: usize) -> bool
+        ensures { result ≡ (nat_lt 32 (length self.now.unbound.items)
+            || nat_lt 32 (brought - self.now.looked)) }
+    {
         self.unbound.len() > FEW || brought.saturating_sub(self.looked) > FEW
     }
 
@@ -67,7 +70,9 @@ impl Look {
         brought: &[Brought<'_>],
     ) -> Result<Look, Memory>
         requires { HasLooked (versions store.now) brought.now self.now }
-        ensures { IfOk result (λ l. HasLooked (versions store.now) brought.now l) }
+        ensures looked { IfOk result (λ l. HasLooked (versions store.now) brought.now l) }
+        ensures now { IfOk result (λ l. (l.place ≡ length (past store.now))
+            × (l.looked ≡ length brought.now)) }
     {
         let unbound = unbound_of(alloc, store, self, brought)?;
         Ok(Look {

@@ -1,8 +1,8 @@
 -- Equations of suspensions that were solved stay so, and nothing is left of them.
-use Rattle.std.proofs.Common.{◌≡◌, ◌==◌, ◌&&◌, ◌<◌, ◌≤◌, ◌+◌, Bool, true, ℕ, zero, suc, List, [], ◌∷◌, ◌++◌, get_or, inl, inr, length, map, refl, reverse, sym, subst, ap, ◌∙◌, ◌↔◌, arith}
+use Rattle.std.proofs.Common.{◌≡◌, ◌==◌, ◌&&◌, ◌<◌, ◌≤◌, ◌+◌, Bool, true, ℕ, zero, suc, List, [], ◌∷◌, ◌++◌, get_or, inr, length, map, refl, reverse, sym, subst, ap, ◌∙◌, ◌↔◌, arith}
 use Rattle.std.proofs.lemmas.Bool.Decides.{Decides-eqb}
 use Rattle.std.proofs.lemmas.List.{length-map, length-reverse}
-use Rattle.std.specs.Prelude.{slice_set}
+use Rattle.std.specs.Prelude.{Some, slice_get, slice_set}
 use Rattle.ap_defs.specs.Canonical.{canonical}
 use Rattle.ap_defs.specs.Freshness.{Conds}
 use Rattle.ap_defs.specs.Permutations.{inverse}
@@ -32,7 +32,7 @@ use Rattle.ap_unify.proofs.AlikeLemmas.{alike_itself, under_none}
 use Rattle.ap_unify.proofs.SoundLemmas.{awaited_follows, awaits_on, follows_on, front_first}
 use Rattle.ap_unify.specs.Needless.{Follows, all_but_last}
 use Rattle.ap_unify.specs.Parts.{LeadsTo}
-use Rattle.ap_unify.specs.Solved.{AllAwaited, AllKnown, AreSolved, AreSolvedAfter, IsAwaited, IsLearnt, IsSolvedIn, IsSolvedBefore, suspensions_equation}
+use Rattle.ap_unify.specs.Solved.{AllAwaited, AllKnown, AreSolved, AreSolvedAfter, IsAwaited, IsSolvedIn, IsSolvedBefore, put_there, suspensions_equation}
 use Rattle.ap_unify.specs.declared.solved.Awaited.{Awaited}
 use Rattle.ap_unify.specs.declared.solved.Solved.{Solved}
 use Rattle.ap_unify.specs.declared.solved.Suspensions.{Suspensions}
@@ -109,29 +109,51 @@ module _ (r : Stage) where
   awaited_last [] a h = (tt, h.0)
   awaited_last (b ∷ as') a h = let k = awaited_last as' a h.1 in ((h.0, k.0), k.1)
 
-  known_set : (es : List Suspensions) (i : ℕ) (e : Suspensions) → AllKnown r es → IsSolvedIn r (suspensions_equation e) → AllKnown r (slice_set es i e)
-  known_set [] zero e h k = tt
-  known_set [] (suc i) e h k = tt
-  known_set (f ∷ es) zero e h k = (k, h.1)
-  known_set (f ∷ es) (suc i) e h k = (h.0, known_set es i e h.1 k)
-
-  -- one more is known, behind the others or in the place of one of them
-  known_learnt : (e : Suspensions) (es fs : List Suspensions) → IsLearnt e es fs → AllKnown r es → IsSolvedIn r (suspensions_equation e) → AllKnown r fs
-  known_learnt e es fs (inl f) h k = subst (AllKnown r) (sym f) (known_more es e h k)
-  known_learnt e es fs (inr g) h k = subst (AllKnown r) (sym g.1.1) (known_set es g.0 e h k)
+  known_put : (es : List Suspensions) (i : ℕ) (e : Suspensions) → AllKnown r es → IsSolvedIn r (suspensions_equation e) → AllKnown r (put_there es i e)
+  known_put [] zero e h k = (k, tt)
+  known_put [] (suc i) e h k = (k, tt)
+  known_put (f ∷ es) zero e h k = (k, h.1)
+  known_put (f ∷ es) (suc i) e h k = (h.0, known_put es i e h.1 k)
 
   -- the last one that is awaited is known once no more equations are left than were behind it
-  pub last_known : (k m : Solved) (a : Awaited) → length r.equations ≤ a.behind → k.awaited.items ≡ m.awaited.items ++ a ∷ []
-      → IsLearnt a.pair k.known.items m.known.items → AreSolved r k → AreSolved r m
-  last_known k m a l e f h =
+  pub last_known : (k m : Solved) (i : ℕ) (a : Awaited) → length r.equations ≤ a.behind → k.awaited.items ≡ m.awaited.items ++ a ∷ []
+      → m.known.items ≡ put_there k.known.items i a.pair → AreSolved r k → AreSolved r m
+  last_known k m i a l e f h =
       let s = awaited_last m.awaited.items a (subst (AllAwaited r) e h.1) in
       let t = susp [] a.pair.x in
       let u = act_term a.pair.swaps.items (susp [] a.pair.y) in
-      (known_learnt a.pair k.known.items m.known.items f h.0 (awaited_follows r a.behind t u l s.1), s.0)
+      (subst (AllKnown r) (sym f) (known_put k.known.items i a.pair h.0 (awaited_follows r a.behind t u l s.1)), s.0)
 
   -- one more is awaited
   pub one_awaited : (as' bs : List Awaited) (a : Awaited) → bs ≡ as' ++ a ∷ [] → AllAwaited r as' → IsAwaited r a → AllAwaited r bs
   one_awaited as' bs a e h i = subst (AllAwaited r) (sym e) (awaited_more as' a h i)
+
+-- suspensions at a place, and behind the others
+pub set_there : (es : List Suspensions) (i : ℕ) (e : Suspensions) → i < length es → slice_set es i e ≡ put_there es i e
+set_there [] i e l = absurd (omega arith)
+set_there (f ∷ es) zero e l = refl
+set_there (f ∷ es) (suc i) e l = ap (λ (zs : List Suspensions). f ∷ zs) (set_there es i e (omega arith))
+
+pub behind_there : (es : List Suspensions) (i : ℕ) (e : Suspensions) → length es ≤ i → es ++ e ∷ [] ≡ put_there es i e
+behind_there [] zero e l = refl
+behind_there [] (suc i) e l = refl
+behind_there (f ∷ es) zero e l = absurd (omega arith)
+behind_there (f ∷ es) (suc i) e l = ap (λ (zs : List Suspensions). f ∷ zs) (behind_there es i e (omega arith))
+
+pub set_stands : (es : List Suspensions) (i : ℕ) (e : Suspensions) → i < length es → slice_get (slice_set es i e) i ≡ Some e
+set_stands [] i e l = absurd (omega arith)
+set_stands (f ∷ es) zero e l = refl
+set_stands (f ∷ es) (suc i) e l = set_stands es i e (omega arith)
+
+pub set_length : (es : List Suspensions) (i : ℕ) (e : Suspensions) → length (slice_set es i e) ≡ length es
+set_length [] zero e = refl
+set_length [] (suc i) e = refl
+set_length (f ∷ es) zero e = refl
+set_length (f ∷ es) (suc i) e = ap suc (set_length es i e)
+
+pub behind_stands : (es : List Suspensions) (e : Suspensions) → slice_get (es ++ e ∷ []) (length es) ≡ Some e
+behind_stands [] e = refl
+behind_stands (f ∷ es) e = behind_stands es e
 
 module _ (s : List Binding) where
   -- the equation in front is solved once those before the ones behind it are

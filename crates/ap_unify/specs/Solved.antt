@@ -1,8 +1,11 @@
 -- Equations of two suspensions that are solved, or are being solved.
-use Rattle.std.specs.Prelude.{◌≡◌, ◌⊎◌, ◌<◌, ℕ, List, [], ◌∷◌, ◌++◌, length, slice_set}
+use Rattle.std.specs.Prelude.{◌≡◌, ℕ, suc, false, List, [], ◌∷◌, ◌++◌, length, take, drop, unwrap_or}
+use Rattle.std.specs.BTreeMap.{get}
+use Rattle.std.specs.Ordering.{is_eq}
 use Rattle.ap_defs.specs.Substitution.{Equation, ◌≐◌}
 use Rattle.ap_defs.specs.Terms.{act_term, susp}
 use Rattle.ap_defs.specs.Unification.{Progress, Stage, done, failed, next}
+use Rattle.ap_perm.specs.Images.{key_cmp}
 use Rattle.ap_unify.specs.Needless.{Awaits, Follows}
 use Rattle.ap_unify.specs.declared.solved.Awaited.{Awaited}
 use Rattle.ap_unify.specs.declared.solved.Solved.{Solved}
@@ -24,9 +27,22 @@ abbrev pub AllKnown : Stage → List Suspensions → Type 0
 AllKnown r [] = Unit {0}
 AllKnown r (e ∷ es) = IsSolvedIn r (suspensions_equation e) × AllKnown r es
 
--- suspensions stand behind others, or in the place of one of them
-abbrev pub IsLearnt : Suspensions → List Suspensions → List Suspensions → Type 0
-IsLearnt e es fs = (fs ≡ es ++ e ∷ []) ⊎ ((i : ℕ) × ((i < length es) × (fs ≡ slice_set es i e)))
+-- the numbers of their variables
+abbrev pub variables_of : Suspensions → ℕ × ℕ
+variables_of e = (e.x.num, e.y.num)
+
+-- where suspensions of two variables stand, or the next place where none do
+abbrev pub place_for : Solved → ℕ × ℕ → ℕ
+place_for k xs = unwrap_or (get key_cmp k.places xs) (length k.known.items)
+
+-- with suspensions in place of those at a place, or behind the others
+abbrev pub put_there : List Suspensions → ℕ → Suspensions → List Suspensions
+put_there es i e = take i es ++ e ∷ drop (suc i) es
+
+-- suspensions of other variables are found where they were
+abbrev pub FindsOthers : ℕ × ℕ → Solved → Solved → Type 0
+FindsOthers xs k m = (ys : ℕ × ℕ) → is_eq (key_cmp xs ys) ≡ false
+    → get key_cmp m.places ys ≡ get key_cmp k.places ys
 
 abbrev pub IsAwaited : Stage → Awaited → Type 0
 IsAwaited r a = IsSolvedBefore r a.behind (suspensions_equation a.pair)

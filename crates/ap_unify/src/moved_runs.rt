@@ -1,6 +1,6 @@
 //! How a run goes on from an equation of closures on which swappings wait.
 
-ghost use Rattle.std.specs.Prelude.{◌≡◌, ◌≤◌, ◌∷◌, ◌++◌, ℕ, None, IfOk, OnOk, length};
+ghost use Rattle.std.specs.Prelude.{◌≡◌, ◌-◌, ◌^◌, ◌∷◌, ◌++◌, ℕ, None, IfOk, OnOk, length, min};
 ghost use Rattle.ap_defs.specs.Unification.{step};
 ghost use Rattle.ap_rules.specs.Runs.{stage_under};
 ghost use Rattle.ap_rules.specs.Work.{ArePairsBelow, GoOn, IsPairBelow, equations_left, pair_equation, problems_met, progress_if, work_stage};
@@ -184,7 +184,8 @@ fn next_moved<'a>(
 /// How many equations are behind the one in front.
 fn behind(work: &Work<'_>, front: &Front<'_>) -> usize
     ensures { (q : PairReading) → result
-        ≤ length (waiting_equations q front.now.waiting ++ equations_left work.now) }
+        ≡ min (length (waiting_equations q front.now.waiting ++ equations_left work.now))
+        (2 ^ 64 - 1) }
 {
     match front.waiting {
         None => work.equations.len(),

@@ -1,6 +1,6 @@
 //! Pairs of variables that stand for one term already, so that nothing is left of their equation.
 
-ghost use Rattle.std.specs.Prelude.{◌≡◌, List, [], true, IfOk, IfSome, OnOk};
+ghost use Rattle.std.specs.Prelude.{◌≡◌, ◌+◌, ◌-◌, ◌^◌, List, [], true, IfOk, IfSome, OnOk, min, nat_lt};
 ghost use Rattle.ap_defs.specs.Substitution.{Binding};
 ghost use Rattle.ap_defs.specs.Terms.{susp};
 ghost use Rattle.ap_equations.specs.Plain.{plain_term};
@@ -179,7 +179,10 @@ fn keep(settled: &mut Settled, pair: PlainPair<'_>) -> Result<(), Memory>
 
 /// Counts a turn of a run, and tells whether there may be a look before it.
 fn is_time(settled: &mut Settled) -> bool
-    ensures { (s : List Binding) → AreSettled s settled.old → AreSettled s settled.new }
+    ensures time { result ≡ nat_lt settled.new.until settled.new.turns }
+    ensures turns { settled.new.turns ≡ min (settled.old.turns + 1) (2 ^ 64 - 1) }
+    ensures until { settled.new.until ≡ settled.old.until }
+    ensures settled { (s : List Binding) → AreSettled s settled.old → AreSettled s settled.new }
 {
     settled.turns = settled.turns.saturating_add(1);
     settled.turns > settled.until

@@ -1,6 +1,6 @@
 //! The swappings that wait on parts of terms, the same for all parts of a side.
 
-ghost use Rattle.std.specs.Prelude.{◌≡◌, ◌<◌, ◌+◌, ◌++◌, false, IfOk, OnOk};
+ghost use Rattle.std.specs.Prelude.{◌≡◌, ◌<◌, ◌+◌, ◌-◌, ◌^◌, ◌++◌, false, IfOk, OnOk, length, min};
 ghost use Rattle.ap_defs.specs.Canonical.{canonical};
 ghost use Rattle.ap_defs.specs.Permutations.{act_name, inverse};
 ghost use Rattle.ap_defs.specs.Renaming.{rename_name};
@@ -108,7 +108,10 @@ fn put_undoing_swaps(swaps: &mut Vec<Swap>, side: &Side) -> Result<(), Memory>
 }
 
 /// How many swappings wait on a side.
-fn count(side: &Side) -> usize {
+fn count(side: &Side) -> usize
+    ensures { result ≡ min (length side.now.swaps.items + length side.now.added.items)
+        (2 ^ 64 - 1) }
+{
     side.swaps.len().saturating_add(side.added.len())
 }
 

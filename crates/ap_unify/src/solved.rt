@@ -1,12 +1,12 @@
 //! Equations of two suspensions that were solved in this run, so that nothing is left of them.
 
-ghost use Rattle.std.specs.Prelude.{◌≡◌, ◌<◌, ◌≤◌, ◌∷◌, ◌++◌, [], true, IfOk, OnOk, length, slice_set};
+ghost use Rattle.std.specs.Prelude.{◌≡◌, ◌==◌, ◌<◌, ◌≤◌, ◌+◌, ◌%◌, ◌^◌, ◌∷◌, ◌++◌, [], true, IfOk, OnOk, Some, length, slice_get, slice_set};
 ghost use Rattle.ap_defs.specs.Freshness.{var_eq};
 ghost use Rattle.ap_defs.specs.Substitution.{◌≐◌};
 ghost use Rattle.ap_defs.specs.Terms.{act_term, susp};
 ghost use Rattle.ap_defs.specs.Unification.{Stage};
 ghost use Rattle.ap_unify.specs.Moved.{moved_equation, waiting};
-ghost use Rattle.ap_unify.specs.Solved.{AllKnown, AreSolved, IsLearnt, IsSolvedIn, IsSolvedBefore, suspensions_equation};
+ghost use Rattle.ap_unify.specs.Solved.{AllKnown, AreSolved, FindsOthers, IsSolvedIn, IsSolvedBefore, place_for, put_there, suspensions_equation, variables_of};
 
 use crate::settled::variable_of;
 use crate::sides::{Sides, between};
@@ -47,12 +47,14 @@ pub struct Solved {
 }
 
 impl Solved {
+    ghost use Rattle.std.specs.Prelude.{◌≡◌, false, true};
     ghost use Rattle.ap_defs.specs.Unification.{Stage};
     ghost use Rattle.ap_unify.specs.Solved.{AreSolved};
 
     /// Nothing is known. It takes no memory.
     pub fn new(alloc: Global) -> Solved
-        ensures { (r : Stage) → AreSolved r result }
+        ensures solved { (r : Stage) → AreSolved r result }
+        ensures noting { result.is_noting ≡ true }
     {
         Solved {
             is_noting: true,
@@ -65,7 +67,8 @@ impl Solved {
 
     /// Nothing is known, and nothing will be noted. It takes no memory.
     pub fn without_notes(alloc: Global) -> Solved
-        ensures { (r : Stage) → AreSolved r result }
+        ensures solved { (r : Stage) → AreSolved r result }
+        ensures noting { result.is_noting ≡ false }
     {
         Solved {
             is_noting: false,
@@ -142,7 +145,9 @@ fn is_known(alloc: Global, solved: &Solved, sides: &Sides, x: Var, y: Var) -> Re
 }
 
 /// The place where suspensions of two variables stand, or the next one where there are none.
-fn place_of(solved: &Solved, variables: (u64, u64)) -> usize {
+fn place_of(solved: &Solved, variables: (u64, u64)) -> usize
+    ensures { result ≡ place_for solved.now variables }
+{
     match solved.places.get(&variables) {
         Some(place) => *place,
         None => solved.known.len(),
@@ -160,6 +165,9 @@ fn put_in_place(known: &mut Vec<Suspensions>, place: usize, pair: Suspensions)
 /// Puts suspensions behind the others.
 fn put_behind(solved: &mut Solved, pair: Suspensions) -> Result<(), Memory>
     ensures known { OnOk result (solved.new.known.items ≡ solved.old.known.items ++ pair ∷ []) }
+    ensures found { OnOk result (
+        slice_get solved.new.known.items (place_for solved.new (variables_of pair)) ≡ Some pair) }
+    ensures others { OnOk result (FindsOthers (variables_of pair) solved.old solved.new) }
     ensures awaited { solved.new.awaited.items ≡ solved.old.awaited.items }
 {
     let variables = (pair.x.num, pair.y.num);
@@ -171,7 +179,11 @@ fn put_behind(solved: &mut Solved, pair: Suspensions) -> Result<(), Memory>
 
 /// Keeps two suspensions whose equation is solved, in place of those of the same variables.
 fn learn(solved: &mut Solved, pair: Suspensions) -> Result<(), Memory>
-    ensures known { OnOk result (IsLearnt pair solved.old.known.items solved.new.known.items) }
+    ensures known { OnOk result (solved.new.known.items
+        ≡ put_there solved.old.known.items (place_for solved.old (variables_of pair)) pair) }
+    ensures found { OnOk result (
+        slice_get solved.new.known.items (place_for solved.new (variables_of pair)) ≡ Some pair) }
+    ensures others { OnOk result (FindsOthers (variables_of pair) solved.old solved.new) }
     ensures awaited { solved.new.awaited.items ≡ solved.old.awaited.items }
 {
     let place = place_of(solved, (pair.x.num, pair.y.num));
@@ -219,7 +231,9 @@ fn note(
 
 /// Counts an equation that is not known, and tells whether it is to be noted.
 fn is_turn(solved: &mut Solved) -> bool
-    ensures { (r : Stage) → AreSolved r solved.old → AreSolved r solved.new }
+    ensures turn { result ≡ (solved.new.met % 16 == 0) }
+    ensures met { solved.new.met ≡ (solved.old.met + 1) % 2 ^ 64 }
+    ensures solved { (r : Stage) → AreSolved r solved.old → AreSolved r solved.new }
 {
     solved.met = solved.met.wrapping_add(1);
     solved.met % ONE_IN == 0

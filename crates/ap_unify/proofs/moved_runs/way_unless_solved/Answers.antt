@@ -1,4 +1,5 @@
-use Rattle.std.proofs.Common.{◌++◌, refl, subst, sym}
+use Rattle.std.proofs.Common.{◌++◌, ◌-◌, ◌^◌, arith, length, refl, subst, sym}
+use Rattle.std.proofs.Math.Nat.{min-le_left}
 use Rattle.ap_rules.proofs.WorkLemmas.{go_same, if_ok}
 use Rattle.ap_rules.specs.Work.{equations_left, problems_met}
 use Rattle.ap_store.specs.Views.{bindings_of, present}
@@ -32,7 +33,7 @@ returns-then-known-clause-solved c =
     let way : LeadsTo before after = subst (LeadsTo before) (sym (c.after_done.ensures.way q s w))
     (solved_way s (well c.args.store.now).idempotent (q f.ahead.next) es (problems_met w) (c.in_ok-known.ensures.known before c.if-known.true c.requires.solved)) in
     solved_on before after way k
-    (c.in_ok-known.ensures.solved before c.requires.solved (solved_before s (q f.ahead.next) es (problems_met w) c.behind-others.result (c.behind-others.ensures q)))
+    (c.in_ok-known.ensures.solved before c.requires.solved (solved_before s (q f.ahead.next) es (problems_met w) c.behind-others.result (omega (arith, c.behind-others.ensures q, min-le_left (length es) (2 ^ 64 - 1)))))
 
 pub returns-then-known-clause-below : goal.returns-then-known-clause-below
 returns-then-known-clause-below c = c.after_done.ensures.below (moved_equation c.args.sides.now) (present c.args.store.now).next c.requires.waiting
@@ -54,5 +55,5 @@ returns-clause-solved c =
     let n = c.next_moved in
     if_ok n.result
     (λ way h. solved_on before (progress_to (moved_equation n.new.sides) way (bindings_of n.new.store) n.new.front n.new.work) h c.is_solved.new.solved
-    (c.in_ok-known.ensures.solved before c.requires.solved (solved_before s (q f.ahead.next) es (problems_met w) c.behind-others.result (c.behind-others.ensures q))))
+    (c.in_ok-known.ensures.solved before c.requires.solved (solved_before s (q f.ahead.next) es (problems_met w) c.behind-others.result (omega (arith, c.behind-others.ensures q, min-le_left (length es) (2 ^ 64 - 1))))))
     n.ensures.stage

@@ -33,4 +33,4 @@ pub along_closures-requires-clause-solved : goal.along_closures-requires-clause-
 along_closures-requires-clause-solved c =
     let w = c.args.work.now in
     let e : ClosurePair = record { left = c.in_ok-left.left; right = c.in_ok-right.right } in
-    c.without_notes-solved.ensures (stage_under (bindings_of c.args.store.now) (pair_equation e ∷ equations_left w) (problems_met w))
+    c.without_notes-solved.ensures.solved (stage_under (bindings_of c.args.store.now) (pair_equation e ∷ equations_left w) (problems_met w))
