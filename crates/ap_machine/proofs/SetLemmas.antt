@@ -1,5 +1,5 @@
 -- Sets of variables by sorting.
-use Rattle.std.proofs.Common.{◌≡◌, ◌<◌, ℕ, zero, suc, true, false, List, [], ◌∷◌, ◌++◌, length, refl, sym, ap, ◌∙◌, inl, inr, append_assoc, arith, true≢false, Ordering}
+use Rattle.std.proofs.Common.{◌≡◌, ◌<◌, ◌+◌, ℕ, zero, suc, true, false, List, [], ◌∷◌, ◌++◌, length, drop, get_or, add-one, drop-cons, refl, sym, ap, ◌∙◌, inl, inr, append_assoc, arith, true≢false, Ordering}
 use Rattle.std.specs.Prelude.{IsPermutation, Some, nat_lt, slice_get, slice_index_or}
 use Rattle.std.specs.Cmp.{IsEquivalence, unsigned_ties}
 use Rattle.std.specs.List.{Contains, dedup}
@@ -103,9 +103,20 @@ same_done xs ys zs e h = λ y. ap (has_var y) (sym (append-nil xs) ∙ ap (λ ws
 pub same_more : (xs ys zs ws all : List Var) → SameVars ys (xs ++ zs) → SameVars (xs ++ (zs ++ ws)) all → SameVars (ys ++ ws) all
 same_more xs ys zs ws all h k = λ y. append_same_vars ys (xs ++ zs) ws ws h (λ x. refl) y ∙ ap (has_var y) (append_assoc xs zs ws) ∙ k y
 
+-- the next of a list is put behind
+pub same_next : (xs ys more : List Var) (d : Var) (i : ℕ) (all : List Var) → i < length more → SameVars ys (xs ++ get_or more i d ∷ []) → SameVars (xs ++ drop i more) all → SameVars (ys ++ drop (i + 1) more) all
+same_next xs ys more d i all h k inv =
+    let next : drop i more ≡ get_or more i d ∷ drop (suc i) more = drop-cons more i d h in
+    let left : SameVars (ys ++ drop (suc i) more) all = same_more xs ys (get_or more i d ∷ []) (drop (suc i) more) all k (λ y. ap (λ (zs : List Var). has_var y (xs ++ zs)) (sym next) ∙ inv y) in
+    λ y. ap (λ n. has_var y (ys ++ drop n more)) (add-one i) ∙ left y
+
 -- the set of what is put one behind the other
 pub set_of_all : (first second third ts cs os : List Var) → SameVars first ts → second ≡ first ++ cs → third ≡ second ++ os → ascending_vars third ≡ ascending_vars (ts ++ cs ++ os)
 set_of_all first second third ts cs os h e d =
     ap ascending_vars (d ∙ ap (λ (xs : List Var). xs ++ os) e)
     ∙ ascending_same (first ++ cs ++ os) (ts ++ cs ++ os)
     (append_same_vars (first ++ cs) (ts ++ cs) os os (append_same_vars first ts cs cs h (λ x. refl)) (λ x. refl))
+
+-- what is put behind others, the last of it but what is there
+pub set_of_each : (first second third ts cs os : List Var) → SameVars first ts → second ≡ first ++ cs → SameVars third (second ++ os) → ascending_vars third ≡ ascending_vars (ts ++ cs ++ os)
+set_of_each first second third ts cs os h e d = ascending_same third (second ++ os) d ∙ set_of_all first second (second ++ os) ts cs os h e refl

@@ -88,6 +88,17 @@ pub(crate) fn add_vars_of_terms(
     Ok(())
 }
 
+/// Adds variables after others, but those that are seen at once to be there: so an answer's variables, where all that
+/// were brought stand in its terms, are not there twice when they are sorted.
+pub(crate) fn add_vars(vars: &mut Vec<Var>, more: &[Var]) -> Result<(), Memory>
+    ensures { OnOk result (SameVars vars.new.items (vars.old.items ++ more.now)) }
+{
+    'adding: for x in more {
+        add_unless_near(vars, *x)?;
+    }
+    Ok(())
+}
+
 /// Adds the variables of conditions after others.
 pub fn add_vars_of_conds(vars: &mut Vec<Var>, conds: &[Cond]) -> Result<(), Memory>
     ensures { OnOk result (vars.new.items ≡ vars.old.items ++ map (λ c. c.var) conds.now) }

@@ -2,7 +2,6 @@ use Rattle.std.proofs.Common.{◌≡◌, ℕ, List, ◌∷◌, length, drop, ari
 use Rattle.std.specs.Prelude.{IfOk}
 use Rattle.ap_defs.specs.Answers.{outs_of}
 use Rattle.ap_defs.specs.Goals.{program_in}
-use Rattle.ap_defs.specs.Types.{locals_of}
 use Rattle.ap_defs.specs.declared.paths.Out.{Out}
 use Rattle.ap_machine.specs.Machines.{position_of}
 use Rattle.ap_machine.specs.Positions.{Position, turned}
@@ -10,6 +9,7 @@ use Rattle.ap_backchain.specs.Searches.{ended_outs, positions_with}
 use Rattle.ap_backchain.specs.Wanted.{wanted_after}
 use Rattle.ap_backchain.proofs.RunLemmas.{on_ok}
 use Rattle.ap_backchain.proofs.WantedLemmas.{rest_taken, wanted_since}
+use Rattle.ap_machine.specs.Asking.{answering_of}
 use Rattle.ap_backchain.proofs.run.go_on.Goals as goal
 
 pub let_go-requires : goal.let_go-requires
@@ -54,7 +54,7 @@ returns-then-goes-clause-wanted c =
     ∙ ap (λ (xs : List Out). wanted_after c.args.wanted.now (outs_of xs)) (rest_taken c.len-before.result c.deref.result.now)
     ∙ ap₂ (λ (n : ℕ) (xs : List Out). wanted_after c.args.wanted.now (outs_of (drop n xs))) before c.deref.ensures.value
     ∙ wanted_since c.args.wanted.now c.args.paths c.args.outs.now.items c.turn_on.new.outs.items
-    (ended_outs (turned (program_in c.args.clauses.now) (locals_of c.args.locals.now) (position_of c.args.machine.now))) c.in_ok-goes.ensures.outs
+    (ended_outs (turned (program_in c.args.clauses.now) (answering_of c.args.asked.now) (position_of c.args.machine.now))) c.in_ok-goes.ensures.outs
 
 pub returns-else-goes-clause-wanted : goal.returns-else-goes-clause-wanted
 returns-else-goes-clause-wanted c =
@@ -64,4 +64,4 @@ returns-else-goes-clause-wanted c =
     ∙ ap (λ (xs : List Out). wanted_after c.args.wanted.now (outs_of xs)) (rest_taken c.len-before.result c.deref.result.now)
     ∙ ap₂ (λ (n : ℕ) (xs : List Out). wanted_after c.args.wanted.now (outs_of (drop n xs))) before c.deref.ensures.value
     ∙ wanted_since c.args.wanted.now c.args.paths c.args.outs.now.items c.turn_on.new.outs.items
-    (ended_outs (turned (program_in c.args.clauses.now) (locals_of c.args.locals.now) (position_of c.args.machine.now))) c.in_ok-goes.ensures.outs)
+    (ended_outs (turned (program_in c.args.clauses.now) (answering_of c.args.asked.now) (position_of c.args.machine.now))) c.in_ok-goes.ensures.outs)
