@@ -1,6 +1,8 @@
 -- The lines of a report need no bindings but those that are shown.
-use Rattle.std.proofs.Common.{◌≡◌, ℕ, zero, suc, Bool, true, false, ◌||◌, ◌&&◌, List, [], ◌∷◌, ◌++◌, map, filter, length, refl, sym, ap, ap₂, ◌∙◌}
-use Rattle.std.specs.Prelude.{codes, if◌then◌else◌}
+use Rattle.std.proofs.Common.{◌≡◌, ℕ, zero, suc, ◌+◌, ◌<◌, Bool, true, false, ◌||◌, ◌&&◌, List, [], ◌∷◌, ◌++◌, map, filter, length, get_or, drop, refl, sym, ap, ap₂, ◌∙◌, add-one, arith, drop-cons}
+use Rattle.std.proofs.lemmas.Bool.Decides.{nat_tests}
+use Rattle.std.proofs.lemmas.List.{nil_from_length}
+use Rattle.std.specs.Prelude.{◌==◌, codes, if◌then◌else◌}
 use Rattle.std.specs.Fmt.{decimal}
 use Rattle.std.specs.Str.{bytes_eq}
 use Rattle.ap_defs.specs.Answers as answers
@@ -16,8 +18,9 @@ use Rattle.ap_defs.specs.Renaming.{local_names, local_vars, name_unless, var_unl
 use Rattle.ap_defs.specs.Resolution.{State, chose, cut, first_state, found, stuck}
 use Rattle.ap_defs.specs.Terms.{NominalTerm, susp}
 use Rattle.ap_defs.specs.Types as types
-use Rattle.ap_defs.specs.Types.{NominalKind, NominalLocal}
+use Rattle.ap_defs.specs.Types.{NominalKind, NominalLocal, local_of, locals_of}
 use Rattle.ap_defs.specs.Unification.{has_var}
+use Rattle.ap_defs.specs.declared.goals.Local.{Local}
 use Rattle.ap_defs.specs.declared.terms.Name.{Name}
 use Rattle.ap_defs.specs.declared.terms.Var.{Var}
 use Rattle.ap_program.specs.FreeLocals.{is_free_var, var_when}
@@ -36,7 +39,7 @@ use Rattle.ap_backchain.specs.Starts.{first_position}
 use Rattle.ap_paths.specs.Limits.{first_part, is_answer_out, part}
 use Rattle.ap_paths.specs.declared.limits.Limit.{Limit}
 use Rattle.ap_paths.specs.declared.limits.Limit.TheVariants as limits
-use Rattle.ap_stream.specs.Shown.{IsHeading, shown_local, shown_locals}
+use Rattle.ap_stream.specs.Shown.{IsHeading, is_unshown, shown_local, shown_locals}
 
 -- Outputs with something made of their answers.
 module _ (f : NominalAnswer → NominalAnswer) where
@@ -250,8 +253,8 @@ module _ (program : NominalProgram) (typed : IsTypedProgram program) (d : ℕ) (
 module _ (program : NominalProgram) (hs ls : List NominalLocal) (h : IsHeading hs ls) where
   heading_text : (a : NominalAnswer) → answer_text program hs a ≡ answer_text program ls a
   heading_text a =
-      ap (λ names. text_by program names (name_texts hs) (shown_binds (var_texts hs) a.binds) a.conds) h.1.0
-      ∙ ap₂ (λ texts words. text_by program (local_names zero ls) texts (shown_binds words a.binds) a.conds) h.1.1 h.0
+      ap (λ names. text_by program names (name_texts hs) (shown_binds (var_texts hs) a.binds) a.conds) h.1
+      ∙ ap₂ (λ texts words. text_by program (local_names zero ls) texts (shown_binds words a.binds) a.conds) h.2 h.0
 
   heading_lines : (xs : List Line) → map (line_text program hs) xs ≡ map (line_text program ls) xs
   heading_lines [] = refl
@@ -311,3 +314,22 @@ heading_of_vars hs ls e h = (
   ap (local_names 0) e ∙ names_of_vars ls 0 ∙ sym (no_names ls h 0),
   ap name_texts e ∙ words_of_vars ls ∙ sym h,
 )
+
+or_nothing : (x : Bool) → (x || false) ≡ x
+or_nothing true = refl
+or_nothing false = refl
+
+-- an identifier more that stays as it is
+pub shown_front : (ls : List Local) (l : Local) (i : ℕ) → i < length ls → l ≡ get_or ls i l → is_unshown (local_of l) ≡ false
+    → shown_locals (locals_of (drop (i + 1) ls)) ≡ locals_of (drop (i + 1) ls) → shown_locals (locals_of (drop i ls)) ≡ locals_of (drop i ls)
+shown_front ls l i h e u k =
+    let first : drop i ls ≡ l ∷ drop (i + 1) ls = drop-cons ls i l h ∙ ap (λ (x : Local). x ∷ drop (suc i) ls) (sym e) ∙ ap (λ n. l ∷ drop n ls) (sym (add-one i)) in
+    let same : shown_local (local_of l) ≡ local_of l =
+    ap (λ b. record (local_of l) { bound = l.bound || b }) u ∙ ap (λ b. record (local_of l) { bound = b }) (or_nothing l.bound) in
+    ap (λ (ks : List Local). shown_locals (locals_of ks)) first ∙ ap₂ (λ (x : NominalLocal) (xs : List NominalLocal). x ∷ xs) same k ∙ sym (ap locals_of first)
+
+number_none : (n : ℕ) → (n == 0) ≡ true → n ≡ 0
+number_none n h = grind (arith, nat_tests)
+
+pub list_none : {A : Type 0} (xs : List A) → (length xs == 0) ≡ true → xs ≡ []
+list_none xs h = nil_from_length xs (number_none (length xs) h)

@@ -137,7 +137,8 @@ pub fn stream_report<'a>(
         return report_by(alloc, limit, at_end, taken, problem, locals, locals, room);
     }
     let shown = shown_locals(alloc, locals)?;
-    if !free_name_texts(alloc, &shown)?.is_empty() {
+    let names = free_name_texts(alloc, &shown)?;
+    if !names.as_slice().is_empty() {
         return report_by(alloc, limit, at_end, taken, problem, &shown, &shown, room);
     }
     let vars = free_vars(alloc, &shown)?;

@@ -31,7 +31,7 @@ fn is_unshown(local: &Local) -> bool
 pub(crate) fn has_unshown(locals: &[Local]) -> bool
     ensures { result ≡ false → shown_locals (locals_of locals.now) ≡ locals_of locals.now }
 {
-    for local in locals {
+    'looking: for local in locals {
         if is_unshown(local) {
             return true;
         }

@@ -1,7 +1,7 @@
-use Rattle.std.proofs.Common.{◌≡◌, ◌-◌, Some, List, ap, ◌∙◌, sym}
+use Rattle.std.proofs.Common.{◌≡◌, ◌-◌, Some, ap, ◌∙◌}
 use Rattle.std.specs.Prelude.{map, slice_get}
 use Rattle.std.proofs.lemmas.Result.{IfOk-weaker}
-use Rattle.ap_defs.specs.Answers.{NominalOut, query_outs}
+use Rattle.ap_defs.specs.Answers.{query_outs}
 use Rattle.ap_defs.specs.Goals.{NominalQuery, program_of}
 use Rattle.ap_defs.specs.Lines.{query_lines}
 use Rattle.ap_defs.specs.Types.{locals_of}
@@ -14,7 +14,6 @@ use Rattle.ap_paths.specs.Limits.{part}
 use Rattle.ap_search.specs.Records.{Answering}
 use Rattle.ap_stream.specs.Builders.{report_with}
 use Rattle.ap_stream.specs.Coming.{outs_coming_by}
-use Rattle.ap_stream.specs.Shown.{shown_locals}
 use Rattle.ap_stream.proofs.ShownLemmas.{heading_suffices}
 use Rattle.ap_stream.proofs.report.report_by.Goals as goal
 
