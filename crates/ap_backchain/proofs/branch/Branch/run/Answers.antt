@@ -1,4 +1,4 @@
-use Rattle.std.proofs.Common.{◌∙◌, ◌≡◌, List, map, ap, subst}
+use Rattle.std.proofs.Common.{◌∙◌, ◌≡◌, map, ap, subst}
 use Rattle.std.specs.Prelude.{IfOk}
 use Rattle.ap_defs.specs.Answers.{outs_of}
 use Rattle.ap_defs.specs.Goals.{Clauses, program_in, query_of}

@@ -1,4 +1,4 @@
-use Rattle.std.proofs.Common.{◌≡◌, ◌∷◌, ◌++◌, [], List, ap, sym, subst}
+use Rattle.std.proofs.Common.{◌≡◌, ◌∷◌, ◌++◌, [], ap, sym, subst}
 use Rattle.ap_defs.specs.Goals.{Clauses, program_in, query_of}
 use Rattle.ap_defs.specs.Types.{locals_of}
 use Rattle.ap_search.specs.Marks.{mark_path}
