@@ -7,7 +7,6 @@ use Rattle.ap_defs.specs.Answers.{NominalAnswer, NominalOut, answer_of, found, o
 use Rattle.ap_defs.specs.declared.outcomes.Answer.{Answer}
 use Rattle.ap_defs.specs.Goals.{Clauses, NominalQuery, clauses_of}
 use Rattle.ap_defs.specs.Paths.{Choice, marked_query}
-use Rattle.ap_defs.specs.Types.{NominalLocal}
 use Rattle.ap_defs.specs.declared.paths.Node.{Node}
 use Rattle.ap_defs.specs.declared.paths.Node.TheVariants as nodes
 use Rattle.ap_defs.specs.declared.paths.Out.{Out}
@@ -41,56 +40,57 @@ use Rattle.ap_backchain.specs.declared.branch.Branch.{Branch}
 use Rattle.ap_turns.specs.declared.standing.Standing.{Standing}
 use Rattle.ap_turns.specs.declared.standing.Standing.TheVariants as standings
 use Rattle.ap_machine.specs.declared.machine.Machine.{Machine}
+use Rattle.ap_search.specs.Records.{Answering}
 use Rattle.ap_backchain.specs.declared.problem.Problem.{Problem}
 
 -- A turn of a machine that doesn't choose.
-module _ (program : Clauses) (locals : List NominalLocal) (here : Position) (h : choice_of program here.waiting ≡ None) where
-  pub ended_marks : (o : NominalOut) → ends o ≡ turned program locals here → out o ∷ [] ≡ marks_from program locals here
-  ended_marks o e = ap (marks_of_turned program locals) e ∙ marks_turned program locals here h
+module _ (program : Clauses) (answering : Answering) (here : Position) (h : choice_of program here.waiting ≡ None) where
+  pub ended_marks : (o : NominalOut) → ends o ≡ turned program answering here → out o ∷ [] ≡ marks_from program answering here
+  ended_marks o e = ap (marks_of_turned program answering) e ∙ marks_turned program answering here h
 
-  pub ended_path : (o : NominalOut) → ends o ≡ turned program locals here → out_path o ≡ here.path
-  ended_path o e = subst (λ (t : Turned). IsSettled here t) (sym e) (settled program locals here h)
+  pub ended_path : (o : NominalOut) → ends o ≡ turned program answering here → out_path o ≡ here.path
+  ended_path o e = subst (λ (t : Turned). IsSettled here t) (sym e) (settled program answering here h)
 
-  pub failed_marks : goes [] ≡ turned program locals here → [] ≡ marks_from program locals here
-  failed_marks e = ap (marks_of_turned program locals) e ∙ marks_turned program locals here h
+  pub failed_marks : goes [] ≡ turned program answering here → [] ≡ marks_from program answering here
+  failed_marks e = ap (marks_of_turned program answering) e ∙ marks_turned program answering here h
 
-  pub went_marks : (next : Position) → goes (next ∷ []) ≡ turned program locals here → marks_from program locals next ≡ marks_from program locals here
-  went_marks next e = sym (append-nil (marks_from program locals next)) ∙ ap (marks_of_turned program locals) e ∙ marks_turned program locals here h
+  pub went_marks : (next : Position) → goes (next ∷ []) ≡ turned program answering here → marks_from program answering next ≡ marks_from program answering here
+  went_marks next e = sym (append-nil (marks_from program answering next)) ∙ ap (marks_of_turned program answering) e ∙ marks_turned program answering here h
 
-  pub went_path : (next : Position) → goes (next ∷ []) ≡ turned program locals here → next.path ≡ here.path
-  went_path next e = subst (λ (t : Turned). IsSettled here t) (sym e) (settled program locals here h)
+  pub went_path : (next : Position) → goes (next ∷ []) ≡ turned program answering here → next.path ≡ here.path
+  went_path next e = subst (λ (t : Turned). IsSettled here t) (sym e) (settled program answering here h)
 
-  pub went_fewer : (next : Position) → goes (next ∷ []) ≡ turned program locals here → turns_from program next < turns_from program here
+  pub went_fewer : (next : Position) → goes (next ∷ []) ≡ turned program answering here → turns_from program next < turns_from program here
   went_fewer next e =
-      let k : suc (turns_from program next + 0) ≡ turns_from program here = ap (λ t. suc (turns_of_turned program t)) e ∙ turns_turned program locals here in
+      let k : suc (turns_from program next + 0) ≡ turns_from program here = ap (λ t. suc (turns_of_turned program t)) e ∙ turns_turned program answering here in
       omega arith
 
 -- A machine that chooses has a mark there.
-pub choosing_marks : (program : Clauses) (locals : List NominalLocal) (p : Position) (o : Option Choice) → told_of program p.state p.waiting ≡ o
-    → marks_from program locals p ≡ written_here with_choices p.path o ++ marks_of_turned program locals (turned program locals p)
-choosing_marks program locals p o h =
-    sym (written_turned with_choices program locals p)
-    ∙ ap (λ x. written_here with_choices p.path x ++ marks_of_turned program locals (turned program locals p)) h
+pub choosing_marks : (program : Clauses) (answering : Answering) (p : Position) (o : Option Choice) → told_of program p.state p.waiting ≡ o
+    → marks_from program answering p ≡ written_here with_choices p.path o ++ marks_of_turned program answering (turned program answering p)
+choosing_marks program answering p o h =
+    sym (written_turned with_choices program answering p)
+    ∙ ap (λ x. written_here with_choices p.path x ++ marks_of_turned program answering (turned program answering p)) h
 
 -- The node of a branch is that of the search at its path.
 module _ (program : Clauses) (d : ℕ) (q : NominalQuery) where
-  chooses : (c : Choice) (p : Machine) → beginning mark_path p.path.items (map (mark_in q.locals) (marked_query program d q)) ≡ marks_from program q.locals (position_of p)
+  chooses : (c : Choice) (p : Machine) → beginning mark_path p.path.items (map (mark_in q.locals) (marked_query program d q)) ≡ marks_from program (answer_by_unbound q.locals) (position_of p)
       → told_of program (position_of p).state (position_of p).waiting ≡ Some c → query_choice program d q p.path.items ≡ Some c
   chooses c p h e =
-      place_choice program d q p.path.items (marks_from program q.locals (position_of p)) h
-      ∙ ap (choice_at p.path.items) (choosing_marks program q.locals (position_of p) (Some c) e)
-      ∙ width_choice p.path.items c (marks_of_turned program q.locals (turned program q.locals (position_of p)))
+      place_choice program d q p.path.items (marks_from program (answer_by_unbound q.locals) (position_of p)) h
+      ∙ ap (choice_at p.path.items) (choosing_marks program (answer_by_unbound q.locals) (position_of p) (Some c) e)
+      ∙ width_choice p.path.items c (marks_of_turned program (answer_by_unbound q.locals) (turned program (answer_by_unbound q.locals) (position_of p)))
 
   no_choice : (p : List ℕ) (ms : List NominalMark) → beginning mark_path p (map (mark_in q.locals) (marked_query program d q)) ≡ ms → choice_at p ms ≡ None → query_choices program d q p ≡ None
   no_choice p ms h e = ap (option_map (λ (v : Choice). v.width)) (place_choice program d q p ms h ∙ e)
 
-  chooses_among : (o : Option Choice) (w : ℕ) (p : Machine) → beginning mark_path p.path.items (map (mark_in q.locals) (marked_query program d q)) ≡ marks_from program q.locals (position_of p)
+  chooses_among : (o : Option Choice) (w : ℕ) (p : Machine) → beginning mark_path p.path.items (map (mark_in q.locals) (marked_query program d q)) ≡ marks_from program (answer_by_unbound q.locals) (position_of p)
       → told_of program (position_of p).state (position_of p).waiting ≡ o → option_map (λ (v : Choice). v.width) o ≡ Some w → Some w ≡ query_choices program d q p.path.items
   chooses_among None w p h e f = absurd cc
   chooses_among (Some c) w p h e f = sym (ap (option_map (λ (v : Choice). v.width)) (chooses c p h e) ∙ f)
 
   -- it chooses among so many where the search of the query does
-  pub width_at : (s : Standing) → beginning mark_path (path_of_standing s) (map (mark_in q.locals) (marked_query program d q)) ≡ marks_of_standing program q.locals s
+  pub width_at : (s : Standing) → beginning mark_path (path_of_standing s) (map (mark_in q.locals) (marked_query program d q)) ≡ marks_of_standing program (answer_by_unbound q.locals) s
       → IsChoosing program s → width_of_standing s ≡ query_choices program d q (path_of_standing s)
   width_at (standings.Choosing w p) h k =
       let here = position_of p in
@@ -98,7 +98,7 @@ module _ (program : Clauses) (d : ℕ) (q : NominalQuery) where
   width_at (standings.Ended o) h k = sym (no_choice (out_path (out_of o)) _ h refl)
   width_at (standings.Failed path) h k = sym (no_choice path.items _ h refl)
 
-  pub node_at : (n : Node) (s : Standing) → beginning mark_path (path_of_standing s) (map (mark_in q.locals) (marked_query program d q)) ≡ marks_of_standing program q.locals s
+  pub node_at : (n : Node) (s : Standing) → beginning mark_path (path_of_standing s) (map (mark_in q.locals) (marked_query program d q)) ≡ marks_of_standing program (answer_by_unbound q.locals) s
       → IsNamedNode program n s → IsNodeAt program d q (path_of_standing s) n
   node_at (nodes.Choice w kept) (standings.Choosing v p) h k = chooses (record { width = w; kept = kept }) p h k.1
   node_at nodes.Answer (standings.Ended (code.Found p a)) h k =
@@ -108,23 +108,23 @@ module _ (program : Clauses) (d : ℕ) (q : NominalQuery) where
   node_at nodes.Failed (standings.Failed path) h k = (no_choice path.items _ h refl, outs_at_marks program d q path.items ∙ ap outs_among h)
   node_at _ _ h k = absurd k
 
-  pub run_at : (s : Standing) → beginning mark_path (path_of_standing s) (map (mark_in q.locals) (marked_query program d q)) ≡ marks_of_standing program q.locals s
-      → outs_among (marks_of_standing program q.locals s) ≡ outs_at program d q (path_of_standing s)
+  pub run_at : (s : Standing) → beginning mark_path (path_of_standing s) (map (mark_in q.locals) (marked_query program d q)) ≡ marks_of_standing program (answer_by_unbound q.locals) s
+      → outs_among (marks_of_standing program (answer_by_unbound q.locals) s) ≡ outs_at program d q (path_of_standing s)
   run_at s h = ap outs_among (sym h) ∙ sym (outs_at_marks program d q (path_of_standing s))
 
-  pub root_marks : (s : Standing) → marks_from program q.locals (first_position d q) ≡ map (mark_in q.locals) (marked_query program d q) → path_of_standing s ≡ [] → marks_of_standing program q.locals s ≡ marks_from program q.locals (first_position d q)
-      → beginning mark_path (path_of_standing s) (map (mark_in q.locals) (marked_query program d q)) ≡ marks_of_standing program q.locals s
+  pub root_marks : (s : Standing) → marks_from program (answer_by_unbound q.locals) (first_position d q) ≡ map (mark_in q.locals) (marked_query program d q) → path_of_standing s ≡ [] → marks_of_standing program (answer_by_unbound q.locals) s ≡ marks_from program (answer_by_unbound q.locals) (first_position d q)
+      → beginning mark_path (path_of_standing s) (map (mark_in q.locals) (marked_query program d q)) ≡ marks_of_standing program (answer_by_unbound q.locals) s
   root_marks s first_marks e m =
       let first = first_position d q in
       ap (λ p. beginning mark_path p (map (mark_in q.locals) (marked_query program d q))) e
       ∙ ap (beginning mark_path []) (sym first_marks)
-      ∙ beginning_whole mark_path [] (marks_from program q.locals first) (marked_stack_begins program (answer_by_unbound q.locals) first.waiting [] first.state [])
+      ∙ beginning_whole mark_path [] (marks_from program (answer_by_unbound q.locals) first) (marked_stack_begins program (answer_by_unbound q.locals) first.waiting [] first.state [])
       ∙ sym m
 
-  pub step_marks : (s t : Standing) (k : ℕ) → beginning mark_path (path_of_standing s) (map (mark_in q.locals) (marked_query program d q)) ≡ marks_of_standing program q.locals s
+  pub step_marks : (s t : Standing) (k : ℕ) → beginning mark_path (path_of_standing s) (map (mark_in q.locals) (marked_query program d q)) ≡ marks_of_standing program (answer_by_unbound q.locals) s
       → path_of_standing t ≡ path_of_standing s ++ k ∷ []
-      → marks_of_standing program q.locals t ≡ beginning mark_path (path_of_standing s ++ k ∷ []) (marks_of_standing program q.locals s)
-      → beginning mark_path (path_of_standing t) (map (mark_in q.locals) (marked_query program d q)) ≡ marks_of_standing program q.locals t
+      → marks_of_standing program (answer_by_unbound q.locals) t ≡ beginning mark_path (path_of_standing s ++ k ∷ []) (marks_of_standing program (answer_by_unbound q.locals) s)
+      → beginning mark_path (path_of_standing t) (map (mark_in q.locals) (marked_query program d q)) ≡ marks_of_standing program (answer_by_unbound q.locals) t
   step_marks s t k h e m =
       ap (λ p. beginning mark_path p (map (mark_in q.locals) (marked_query program d q))) e
       ∙ sym (beginning_deeper mark_path (path_of_standing s) (k ∷ []) (map (mark_in q.locals) (marked_query program d q)))
@@ -138,7 +138,7 @@ asked_once o x y h k = cc
 module _ (p : Problem) (paths : Paths) (limit : Limit) (query : NominalQuery) (asked : slice_get (queries_in p) (p.query - 1) ≡ Some query) (program_typed : IsTypedProgram (program_of_problem p))
     (typed : IsTypedQuery term_form (program_of_problem p).signature query) where
   abbrev first_outs : List NominalOut
-  first_outs = part limit (outs_from (clauses_in p) query.locals (first_position p.depth query))
+  first_outs = part limit (outs_from (clauses_in p) (answer_by_unbound query.locals) (first_position p.depth query))
 
   abbrev AreTheOutputs : Vec Out Global → Type 0
   AreTheOutputs v = (q : NominalQuery) → slice_get (queries_in p) (p.query - 1) ≡ Some q → outs_of v.items ≡ map (kept_out paths) (part limit (query_outs (clauses_in p) p.depth q))
@@ -171,7 +171,7 @@ with_paths p limit v h q asked = h q asked ∙ map-id (part limit (query_outs (c
 
 pub root_stands : (p : Problem) (query : NominalQuery) (s : Standing) → slice_get (queries_in p) (p.query - 1) ≡ Some query
     → IsTypedProgram (program_of_problem p) → IsTypedQuery term_form (program_of_problem p).signature query → path_of_standing s ≡ []
-    → marks_of_standing (clauses_in p) query.locals s ≡ marks_from (clauses_in p) query.locals (first_position p.depth query) → IsChoosing (clauses_in p) s → IsStandingOf p s
+    → marks_of_standing (clauses_in p) (answer_by_unbound query.locals) s ≡ marks_from (clauses_in p) (answer_by_unbound query.locals) (first_position p.depth query) → IsChoosing (clauses_in p) s → IsStandingOf p s
 root_stands p query s asked program_typed typed path marks choosing = λ q h.
     subst (λ (x : NominalQuery). IsStandingFor (clauses_in p) p.depth x s) (asked_once (slice_get (queries_in p) (p.query - 1)) query q asked h)
     (record { marks = root_marks (clauses_in p) p.depth query s (marked_stack_by_unbound (program_of_problem p) program_typed p.depth query typed) path marks; choosing = choosing })
@@ -181,7 +181,7 @@ atom_chooses program zero c h = absurd (h refl)
 atom_chooses program (suc d) c h = refl
 
 pub run_is : {E : Type 0} (p : Problem) (paths : Paths) (query : NominalQuery) (b : Branch) (r : Result (Vec Out Global) E) → slice_get (queries_in p) (p.query - 1) ≡ Some query → IsBranchOf p b
-    → IfOk r (λ v. outs_of v.items ≡ map (kept_out paths) (outs_among (marks_of_standing (clauses_in p) query.locals b.standing)))
+    → IfOk r (λ v. outs_of v.items ≡ map (kept_out paths) (outs_among (marks_of_standing (clauses_in p) (answer_by_unbound query.locals) b.standing)))
     → IfOk r (λ v. (q : NominalQuery) → slice_get (queries_in p) (p.query - 1) ≡ Some q → outs_of v.items ≡ map (kept_out paths) (outs_at (clauses_in p) p.depth q (path_of_branch b)))
 run_is p paths query b (Ok v) asked of h = λ q k.
     subst (λ (x : NominalQuery). outs_of v.items ≡ map (kept_out paths) (outs_at (clauses_in p) p.depth x (path_of_branch b))) (asked_once (slice_get (queries_in p) (p.query - 1)) query q asked k)
@@ -199,21 +199,21 @@ if_none P Q f (Ok o) h = λ e. f (h e)
 if_none P Q f (Err e) h = tt
 
 module _ (p : Problem) (query : NominalQuery) (b : Branch) (asked : slice_get (queries_in p) (p.query - 1) ≡ Some query) (of : IsBranchOf p b) where
-  pub outs_below : (paths : Paths) (os : List NominalOut) → os ≡ map (kept_out paths) (outs_among (marks_of_standing (clauses_in p) query.locals b.standing))
+  pub outs_below : (paths : Paths) (os : List NominalOut) → os ≡ map (kept_out paths) (outs_among (marks_of_standing (clauses_in p) (answer_by_unbound query.locals) b.standing))
       → (q : NominalQuery) → slice_get (queries_in p) (p.query - 1) ≡ Some q → os ≡ map (kept_out paths) (outs_at (clauses_in p) p.depth q (path_of_branch b))
   outs_below paths os h q k =
       subst (λ (x : NominalQuery). os ≡ map (kept_out paths) (outs_at (clauses_in p) p.depth x (path_of_branch b))) (asked_once (slice_get (queries_in p) (p.query - 1)) query q asked k)
       (h ∙ ap (map (kept_out paths)) (run_at (clauses_in p) p.depth query b.standing (of query asked).marks))
 
   pub choices_below : (q : NominalQuery) → slice_get (queries_in p) (p.query - 1) ≡ Some q
-      → choices_among (marks_of_standing (clauses_in p) query.locals b.standing) ≡ choices_at (clauses_in p) p.depth q (path_of_branch b)
+      → choices_among (marks_of_standing (clauses_in p) (answer_by_unbound query.locals) b.standing) ≡ choices_at (clauses_in p) p.depth q (path_of_branch b)
   choices_below q k =
-      subst (λ (x : NominalQuery). choices_among (marks_of_standing (clauses_in p) query.locals b.standing) ≡ choices_at (clauses_in p) p.depth x (path_of_branch b))
+      subst (λ (x : NominalQuery). choices_among (marks_of_standing (clauses_in p) (answer_by_unbound query.locals) b.standing) ≡ choices_at (clauses_in p) p.depth x (path_of_branch b))
       (asked_once (slice_get (queries_in p) (p.query - 1)) query q asked k) (sym (ap choices_among (of query asked).marks))
 
 pub step_stands : (p : Problem) (query : NominalQuery) (s t : Standing) (k : ℕ) → slice_get (queries_in p) (p.query - 1) ≡ Some query → IsStandingOf p s
     → path_of_standing t ≡ path_of_standing s ++ k ∷ []
-    → marks_of_standing (clauses_in p) query.locals t ≡ beginning mark_path (path_of_standing s ++ k ∷ []) (marks_of_standing (clauses_in p) query.locals s)
+    → marks_of_standing (clauses_in p) (answer_by_unbound query.locals) t ≡ beginning mark_path (path_of_standing s ++ k ∷ []) (marks_of_standing (clauses_in p) (answer_by_unbound query.locals) s)
     → IsChoosing (clauses_in p) t → IsStandingOf p t
 step_stands p query s t k asked of path marks choosing = λ q h.
     subst (λ (x : NominalQuery). IsStandingFor (clauses_in p) p.depth x t) (asked_once (slice_get (queries_in p) (p.query - 1)) query q asked h)
@@ -250,6 +250,6 @@ pub answer_at : (p : Problem) (b : Branch) (path : List ℕ) (a : Answer) (r : N
 answer_at p b path a r of e f q asked =
     outs_at_marks (clauses_in p) p.depth q (path_of_branch b)
     ∙ ap outs_among (of q asked).marks
-    ∙ ap (λ s. outs_among (marks_of_standing (clauses_in p) q.locals s)) e
+    ∙ ap (λ s. outs_among (marks_of_standing (clauses_in p) (answer_by_unbound q.locals) s)) e
     ∙ ap (λ x. found x (answer_of a) ∷ []) (sym (ap path_of_standing e))
     ∙ ap (λ x. found (path_of_branch b) x ∷ []) (sym f)

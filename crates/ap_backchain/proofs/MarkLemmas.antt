@@ -8,19 +8,19 @@ use Rattle.ap_defs.specs.Resolution.{State, fresh_for_each}
 use Rattle.ap_defs.specs.Substitution.{under}
 use Rattle.ap_defs.specs.Terms as terms
 use Rattle.ap_defs.specs.Terms.{NominalTerm}
-use Rattle.ap_defs.specs.Types.{NominalLocal}
 use Rattle.ap_defs.specs.Unification.{reduce_all, unify}
 use Rattle.ap_search.specs.Continuations.{Waiting}
 use Rattle.ap_search.specs.Marks.{with_choices}
 use Rattle.ap_turns.specs.Marks.{IsSettled, choice_of, choice_of_atom, choice_of_goal, marks_from, marks_of_turned, written_here}
 use Rattle.ap_machine.specs.Positions.{Position, Turned, each_position, ends, goes, reduced_state, turned, turned_atom, turned_by, turned_fresh, turned_goal, unified_state, with_state}
+use Rattle.ap_search.specs.Records.{Answering}
 use Rattle.ap_backchain.proofs.TurnLemmas.{nothing_chosen, written_turned}
 
-pub marks_turned : (program : Clauses) (locals : List NominalLocal) (p : Position) → choice_of program p.waiting ≡ None
-    → marks_of_turned program locals (turned program locals p) ≡ marks_from program locals p
-marks_turned program locals p h =
-    ap (λ o. written_here with_choices p.path o ++ marks_of_turned program locals (turned program locals p)) (sym (nothing_chosen program p.state p.waiting h))
-    ∙ written_turned with_choices program locals p
+pub marks_turned : (program : Clauses) (answering : Answering) (p : Position) → choice_of program p.waiting ≡ None
+    → marks_of_turned program answering (turned program answering p) ≡ marks_from program answering p
+marks_turned program answering p h =
+    ap (λ o. written_here with_choices p.path o ++ marks_of_turned program answering (turned program answering p)) (sym (nothing_chosen program p.state p.waiting h))
+    ∙ written_turned with_choices program answering p
 
 -- and it goes on from one machine at most.
 settled_with : (p : Position) (f : State → Position) → ((s : State) → (f s).path ≡ p.path) → (o : Option State) → IsSettled p (goes (each_position f o))
@@ -51,9 +51,9 @@ settled_goal program d (new a g) p h =
     settled_with p (λ s. with_state s (record p { waiting = record { goal = g; depth = d } ∷ p.waiting })) (λ s. refl)
     (reduced_state p.state (reduce_all p.state.bindings (fresh_for_each a (free_vars g))))
 
-settled_by : (program : Clauses) (locals : List NominalLocal) (ws : List Waiting) (p : Position) → choice_of program ws ≡ None → IsSettled p (turned_by program locals ws p)
-settled_by program locals [] p h = refl
-settled_by program locals (w ∷ ws) p h = settled_again (turned_goal program w.depth w.goal (record p { waiting = ws })) (settled_goal program w.depth w.goal (record p { waiting = ws }) h)
+settled_by : (program : Clauses) (answering : Answering) (ws : List Waiting) (p : Position) → choice_of program ws ≡ None → IsSettled p (turned_by program answering ws p)
+settled_by program answering [] p h = refl
+settled_by program answering (w ∷ ws) p h = settled_again (turned_goal program w.depth w.goal (record p { waiting = ws })) (settled_goal program w.depth w.goal (record p { waiting = ws }) h)
   where
     settled_again : (t : Turned) → IsSettled (record p { waiting = ws }) t → IsSettled p t
     settled_again (ends o) k = k
@@ -61,5 +61,5 @@ settled_by program locals (w ∷ ws) p h = settled_again (turned_goal program w.
     settled_again (goes (r ∷ [])) k = k
     settled_again (goes (r ∷ s ∷ ps)) k = k
 
-pub settled : (program : Clauses) (locals : List NominalLocal) (p : Position) → choice_of program p.waiting ≡ None → IsSettled p (turned program locals p)
-settled program locals p h = settled_by program locals p.waiting p h
+pub settled : (program : Clauses) (answering : Answering) (p : Position) → choice_of program p.waiting ≡ None → IsSettled p (turned program answering p)
+settled program answering p h = settled_by program answering p.waiting p h

@@ -13,35 +13,34 @@ use Rattle.ap_defs.specs.Resolution.{State, fresh_for_each, kinds_of, next_numbe
 use Rattle.ap_defs.specs.Substitution.{under}
 use Rattle.ap_defs.specs.Terms as terms
 use Rattle.ap_defs.specs.Terms.{NominalTerm}
-use Rattle.ap_defs.specs.Types.{NominalLocal}
 use Rattle.ap_defs.specs.Unification.{Unified, reduce_all, unify}
 use Rattle.ap_search.specs.Continuations.{Continuation, Waiting, Writing, calls_then, clause_then, clauses_then, goal_then, outputs_alone, stack_then, then_if_reduced, then_if_unified, then_test_fresh}
 use Rattle.ap_turns.specs.Marks.{choice_of, choice_of_atom, choice_of_goal, told_of, told_of_atom, told_of_goal, written_here}
 use Rattle.ap_machine.specs.Positions.{Position, enters_clause, positions_by_clauses, clause_state, each_position, entered, outs_from, outs_of_turned, reduced_state, turned, turned_atom, turned_by, turned_fresh, turned_goal, unified_state, with_state, written_from, written_from_each, written_of_turned}
+use Rattle.ap_search.specs.Records.{Answering}
 use Rattle.ap_backchain.specs.Turns.{call_turns, clauses_turns, fresh_turns, goal_turns, stack_turns, turns_from, turns_from_each, turns_if, turns_of_turned}
-use Rattle.ap_machine.specs.Unbound.{answer_by_unbound}
 
 -- What is written: that of the choice that the first goal makes, and what a turn makes of the machine.
-module _ {R : Type 0} (w : Writing R) (program : Clauses) (locals : List NominalLocal) where
+module _ {R : Type 0} (w : Writing R) (program : Clauses) (answering : Answering) where
   pub written_append : (ps qs : List Position)
-      → written_from_each w program locals (ps ++ qs) ≡ written_from_each w program locals ps ++ written_from_each w program locals qs
+      → written_from_each w program answering (ps ++ qs) ≡ written_from_each w program answering ps ++ written_from_each w program answering qs
   written_append [] qs = refl
   written_append (p ∷ ps) qs =
-      ap (λ os. written_from w program locals p ++ os) (written_append ps qs)
-      ∙ sym (append_assoc (written_from w program locals p) (written_from_each w program locals ps) (written_from_each w program locals qs))
+      ap (λ os. written_from w program answering p ++ os) (written_append ps qs)
+      ∙ sym (append_assoc (written_from w program answering p) (written_from_each w program answering ps) (written_from_each w program answering qs))
 
   written_unified : (f : State → Position) (s : State) (o : Option Unified)
-      → written_from_each w program locals (each_position f (unified_state s o)) ≡ then_if_unified (λ r. written_from w program locals (f r)) s o
+      → written_from_each w program answering (each_position f (unified_state s o)) ≡ then_if_unified (λ r. written_from w program answering (f r)) s o
   written_unified f s None = refl
   written_unified f s (Some r) = append-nil _
 
   written_reduced : (f : State → Position) (s : State) (o : Option (List Cond))
-      → written_from_each w program locals (each_position f (reduced_state s o)) ≡ then_if_reduced (λ r. written_from w program locals (f r)) s o
+      → written_from_each w program answering (each_position f (reduced_state s o)) ≡ then_if_reduced (λ r. written_from w program answering (f r)) s o
   written_reduced f s None = refl
   written_reduced f s (Some cs) = append-nil _
 
   written_fresh : (p : Position) (t u : NominalTerm)
-      → written_of_turned w program locals (turned_fresh p t u) ≡ then_test_fresh w (λ r. written_from w program locals (with_state r p)) p.path p.state t u
+      → written_of_turned w program answering (turned_fresh p t u) ≡ then_test_fresh w (λ r. written_from w program answering (with_state r p)) p.path p.state t u
   written_fresh p (terms.name a) u = written_reduced (λ s. with_state s p) p.state (reduce a (under p.state.bindings u))
   written_fresh p (terms.susp q x) u = refl
   written_fresh p terms.unit u = refl
@@ -50,17 +49,17 @@ module _ {R : Type 0} (w : Writing R) (program : Clauses) (locals : List Nominal
   written_fresh p (terms.abs _ _) u = refl
 
   abbrev rest_of : Position → Continuation R
-  rest_of p = stack_then w program (answer_by_unbound locals) p.waiting
+  rest_of p = stack_then w program answering p.waiting
 
   pub written_clause : (d : ℕ) (ts : List NominalTerm) (p : Position) (i : ℕ) (c : NominalClause)
-      → written_from_each w program locals (enters_clause d ts p i c)
+      → written_from_each w program answering (enters_clause d ts p i c)
       ≡ clause_then (goal_then w (calls_then w program d)) ts (rest_of p) i c p.path p.state p.brought
   written_clause d ts p i c =
       written_unified (entered d p i c) (record (p.state) { kinds = p.state.kinds ++ kinds_of c.locals })
       (unify p.state.bindings p.state.conditions ts (map (rename_term (next_number p.state)) c.args))
 
   pub written_clauses : (d : ℕ) (ts : List NominalTerm) (p : Position) (i : ℕ) (cs : List NominalClause)
-      → written_from_each w program locals (positions_by_clauses d ts p i cs)
+      → written_from_each w program answering (positions_by_clauses d ts p i cs)
       ≡ clauses_then (goal_then w (calls_then w program d)) ts (rest_of p) i cs p.path p.state p.brought
   written_clauses d ts p i [] = refl
   written_clauses d ts p i (c ∷ cs) =
@@ -68,7 +67,7 @@ module _ {R : Type 0} (w : Writing R) (program : Clauses) (locals : List Nominal
       ∙ ap₂ ◌++◌ (written_clause d ts p i c) (written_clauses d ts p (suc i) cs)
 
   written_atom : (d c : ℕ) (ts : List NominalTerm) (p : Position)
-      → written_here w p.path (told_of_atom program p.state d c ts) ++ written_of_turned w program locals (turned_atom program d c ts p)
+      → written_here w p.path (told_of_atom program p.state d c ts) ++ written_of_turned w program answering (turned_atom program d c ts p)
       ≡ calls_then w program d c ts (rest_of p) p.path p.state p.brought
   written_atom zero c ts p = refl
   written_atom (suc d) c ts p =
@@ -76,7 +75,7 @@ module _ {R : Type 0} (w : Writing R) (program : Clauses) (locals : List Nominal
       ap (λ os. w.choice p.path (length cs) (kept_clauses p.state.bindings ts cs) ++ os) (written_clauses d ts p 1 cs)
 
   written_goal : (d : ℕ) (g : NominalGoal) (p : Position)
-      → written_here w p.path (told_of_goal program p.state d g) ++ written_of_turned w program locals (turned_goal program d g p)
+      → written_here w p.path (told_of_goal program p.state d g) ++ written_of_turned w program answering (turned_goal program d g p)
       ≡ goal_then w (calls_then w program d) g (rest_of p) p.path p.state p.brought
   written_goal d succeed p = append-nil _
   written_goal d (atom c ts) p = written_atom d c ts p
@@ -92,14 +91,14 @@ module _ {R : Type 0} (w : Writing R) (program : Clauses) (locals : List Nominal
       (reduce_all p.state.bindings (fresh_for_each a (free_vars g)))
 
   written_by : (ws : List Waiting) (p : Position)
-      → written_here w p.path (told_of program p.state ws) ++ written_of_turned w program locals (turned_by program locals ws p)
-      ≡ stack_then w program (answer_by_unbound locals) ws p.path p.state p.brought
+      → written_here w p.path (told_of program p.state ws) ++ written_of_turned w program answering (turned_by program answering ws p)
+      ≡ stack_then w program answering ws p.path p.state p.brought
   written_by [] p = refl
   written_by (v ∷ vs) p = written_goal v.depth v.goal (record p { waiting = vs })
 
   pub written_turned : (p : Position)
-      → written_here w p.path (told_of program p.state p.waiting) ++ written_of_turned w program locals (turned program locals p)
-      ≡ written_from w program locals p
+      → written_here w p.path (told_of program p.state p.waiting) ++ written_of_turned w program answering (turned program answering p)
+      ≡ written_from w program answering p
   written_turned p = written_by p.waiting p
 
 -- among how many it chooses does not hang on the state
@@ -133,11 +132,11 @@ none_here : (p : List ℕ) (o : Option Choice) → written_here outputs_alone p 
 none_here p None = refl
 none_here p (Some v) = refl
 
-pub outs_turned : (program : Clauses) (locals : List NominalLocal) (p : Position)
-    → outs_of_turned program locals (turned program locals p) ≡ outs_from program locals p
-outs_turned program locals p =
-    ap (λ os. os ++ outs_of_turned program locals (turned program locals p)) (sym (none_here p.path (told_of program p.state p.waiting)))
-    ∙ written_turned outputs_alone program locals p
+pub outs_turned : (program : Clauses) (answering : Answering) (p : Position)
+    → outs_of_turned program answering (turned program answering p) ≡ outs_from program answering p
+outs_turned program answering p =
+    ap (λ os. os ++ outs_of_turned program answering (turned program answering p)) (sym (none_here p.path (told_of program p.state p.waiting)))
+    ∙ written_turned outputs_alone program answering p
 
 -- Turns.
 pub turns_append : (program : Clauses) (ps qs : List Position) → turns_from_each program (ps ++ qs) ≡ turns_from_each program ps + turns_from_each program qs
@@ -184,11 +183,11 @@ turns_goal program d (new a g) p =
     ap suc (turns_each program (λ s. with_state s (record p { waiting = record { goal = g; depth = d } ∷ p.waiting })) (reduced_state p.state
     (reduce_all p.state.bindings (fresh_for_each a (free_vars g)))))
 
-turns_by : (program : Clauses) (locals : List NominalLocal) (ws : List Waiting) (p : Position)
-    → suc (turns_of_turned program (turned_by program locals ws p)) ≡ stack_turns program ws p.state
-turns_by program locals [] p = refl
-turns_by program locals (w ∷ ws) p = turns_goal program w.depth w.goal (record p { waiting = ws })
+turns_by : (program : Clauses) (answering : Answering) (ws : List Waiting) (p : Position)
+    → suc (turns_of_turned program (turned_by program answering ws p)) ≡ stack_turns program ws p.state
+turns_by program answering [] p = refl
+turns_by program answering (w ∷ ws) p = turns_goal program w.depth w.goal (record p { waiting = ws })
 
-pub turns_turned : (program : Clauses) (locals : List NominalLocal) (p : Position)
-    → suc (turns_of_turned program (turned program locals p)) ≡ turns_from program p
-turns_turned program locals p = turns_by program locals p.waiting p
+pub turns_turned : (program : Clauses) (answering : Answering) (p : Position)
+    → suc (turns_of_turned program (turned program answering p)) ≡ turns_from program p
+turns_turned program answering p = turns_by program answering p.waiting p

@@ -1,5 +1,5 @@
 -- What is wanted after the outputs that a turn of a search adds.
-use Rattle.std.proofs.Common.{◌≡◌, ℕ, zero, suc, ◌+◌, ◌-◌, Bool, true, false, if◌then◌else◌, List, [], ◌∷◌, ◌++◌, length, take, drop, map, refl, sym, ap, ap₂, ◌∙◌, append-nil, arith}
+use Rattle.std.proofs.Common.{◌≡◌, ℕ, zero, suc, ◌+◌, ◌-◌, ◌≤◌, Bool, true, false, if◌then◌else◌, List, [], ◌∷◌, ◌++◌, length, take, drop, map, refl, sym, ap, ap₂, ◌∙◌, append-nil, arith}
 use Rattle.ap_defs.specs.Answers.{NominalOut, cut, found, outs_of, stuck}
 use Rattle.ap_defs.specs.declared.paths.Out.{Out}
 use Rattle.ap_paths.specs.Limits.{IsWanting, found_in, is_answer_out, part}
@@ -17,6 +17,12 @@ came : (xs ys : List Out) (more : List NominalOut) → outs_of ys ≡ outs_of xs
 came [] ys more e = e
 came (x ∷ xs) [] more e = absurd (cc)
 came (x ∷ xs) (y ∷ ys) more e = let f : outs_of ys ≡ outs_of xs ++ more = cc in came xs ys more f
+
+-- there are no fewer then
+pub no_fewer : (xs ys : List Out) (more : List NominalOut) → outs_of ys ≡ outs_of xs ++ more → length xs ≤ length ys
+no_fewer [] ys more e = omega arith
+no_fewer (x ∷ xs) [] more e = absurd (cc)
+no_fewer (x ∷ xs) (y ∷ ys) more e = let f : outs_of ys ≡ outs_of xs ++ more = cc in let h = no_fewer xs ys more f in omega (arith, h)
 
 -- without its path it is an answer as before
 found_kept : (p : Paths) (o : NominalOut) → is_answer_out (kept_out p o) ≡ is_answer_out o

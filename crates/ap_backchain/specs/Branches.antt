@@ -15,6 +15,7 @@ use Rattle.ap_backchain.specs.declared.branch.Branch.{Branch}
 use Rattle.ap_backchain.specs.declared.descent.Descent.{Descent}
 use Rattle.ap_turns.specs.Standings.{IsChoosing, IsNamedNode, marks_of_standing, path_of_standing, width_of_standing}
 use Rattle.ap_turns.specs.declared.standing.Standing.{Standing}
+use Rattle.ap_machine.specs.Unbound.{answer_by_unbound}
 use Rattle.ap_backchain.specs.declared.problem.Problem.{Problem}
 
 -- how many choices the search of a query makes at a path and below it
@@ -37,7 +38,7 @@ IsAnswering b = b.node ≡ nodes.Answer
 
 -- what a search holds on its way along a path is what the search of the query has there
 pub record IsStandingFor (program : Clauses) (depth : ℕ) (q : NominalQuery) (s : Standing) : Type 0 where
-  pub marks : beginning mark_path (path_of_standing s) (map (mark_in q.locals) (marked_query program depth q)) ≡ marks_of_standing program q.locals s
+  pub marks : beginning mark_path (path_of_standing s) (map (mark_in q.locals) (marked_query program depth q)) ≡ marks_of_standing program (answer_by_unbound q.locals) s
   pub choosing : IsChoosing program s
 
 abbrev pub IsStandingOf : Problem → Standing → Type 0
@@ -54,7 +55,7 @@ width_of_descent d = width_of_standing d.standing
 
 -- all that the branch holds is what the search of the query has at its path
 pub record IsBranchFor (program : Clauses) (depth : ℕ) (q : NominalQuery) (b : Branch) : Type 0 where
-  pub marks : beginning mark_path (path_of_branch b) (map (mark_in q.locals) (marked_query program depth q)) ≡ marks_of_standing program q.locals b.standing
+  pub marks : beginning mark_path (path_of_branch b) (map (mark_in q.locals) (marked_query program depth q)) ≡ marks_of_standing program (answer_by_unbound q.locals) b.standing
   pub choosing : IsChoosing program b.standing
   pub named : IsNamedNode program b.node b.standing
 

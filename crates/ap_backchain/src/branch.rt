@@ -1,11 +1,11 @@
 //! Branches of the search of a problem, from choice to choice.
 
-ghost use Rattle.std.specs.Prelude.{◌≡◌, ◌-◌, ◌^◌, ◌<◌, ◌≤◌, ◌++◌, [], ◌∷◌, None, Some, IfOk, IfSome, length, map, slice_get};
+ghost use Rattle.std.specs.Prelude.{◌≡◌, ◌-◌, ◌<◌, ◌≤◌, ◌++◌, [], ◌∷◌, None, Some, IfOk, IfSome, map, slice_get};
 ghost use Rattle.ap_defs.specs.Answers.{answer_of, found, outs_at, outs_of};
 ghost use Rattle.ap_defs.specs.Goals.{NominalQuery, program_in};
 ghost use Rattle.ap_search.specs.Marks.{outs_among};
 ghost use Rattle.ap_backchain.specs.declared.problem.Problem.{Problem};
-ghost use Rattle.ap_defs.specs.Types.{locals_of};
+ghost use Rattle.ap_machine.specs.Asking.{answering_of};
 ghost use Rattle.ap_machine.specs.Below.{AreClausesBelow};
 ghost use Rattle.ap_backchain.specs.Branches.{IsAnswering, IsBranchOf, IsChoiceOf, IsNodeAt, choices_at, path_of_branch};
 ghost use Rattle.ap_turns.specs.Standings.{IsChoosing, IsNamedNode, marks_of_standing};
@@ -18,12 +18,12 @@ use crate::descent::Descent;
 use crate::ends::out_with;
 use crate::problem::{Problem, clauses_of_problem, query_of_problem};
 use crate::run::{Paths, outputs_from};
-use ap_defs::goals::Local;
 use ap_defs::memory::Memory;
 use ap_defs::outcomes::Answer;
 use ap_defs::paths::{Node, Out};
 use ap_index::predicate::Predicate;
 use ap_machine::answer_copies::copy_answer;
+use ap_machine::asked::Asked;
 use ap_paths::Limit;
 use ap_turns::standing::{Standing, node_of, path_of};
 use std::alloc::Global;
@@ -54,19 +54,18 @@ pub(crate) fn branch_at<'a>(
 fn outs_of_standing<'a>(
     alloc: Global,
     clauses: &'a [Predicate<'a>],
-    locals: &[Local],
+    asked: &Asked<'_>,
     paths: Paths,
     standing: Standing<'a>,
 ) -> Result<Vec<Out>, Memory>
     requires clauses { AreClausesBelow (program_in clauses.now) }
-    requires locals { length locals.now < 2 ^ 64 }
     ensures { IfOk result (λ v. outs_of v.items
         ≡ map (kept_out paths) (outs_among (marks_of_standing (program_in clauses.now)
-        (locals_of locals.now) standing.entry))) }
+        (answering_of asked.now) standing.entry))) }
 {
     match standing {
         Standing::Choosing(_, machine) => {
-            outputs_from(alloc, clauses, locals, paths, Limit::All, machine)
+            outputs_from(alloc, clauses, asked, paths, Limit::All, machine)
         }
         Standing::Ended(out) => {
             let mut outs = Vec::new(alloc);
@@ -82,26 +81,25 @@ fn outs_of_standing<'a>(
 fn outs_by_choices<'a>(
     alloc: Global,
     clauses: &'a [Predicate<'a>],
-    locals: &[Local],
+    asked: &Asked<'_>,
     paths: Paths,
     most: u64,
     standing: Standing<'a>,
 ) -> Result<Option<Vec<Out>>, Memory>
     requires clauses { AreClausesBelow (program_in clauses.now) }
-    requires locals { length locals.now < 2 ^ 64 }
     ensures outs { IfOk result (λ o. IfSome o (λ v. outs_of v.items
         ≡ map (kept_out paths) (outs_among (marks_of_standing (program_in clauses.now)
-        (locals_of locals.now) standing.entry)))) }
+        (answering_of asked.now) standing.entry)))) }
     ensures few { IfOk result (λ o. IfSome o (λ v.
         choices_among (marks_of_standing (program_in clauses.now)
-        (locals_of locals.now) standing.entry) ≤ most)) }
+        (answering_of asked.now) standing.entry) ≤ most)) }
     ensures many { IfOk result (λ o. o ≡ None →
         most < choices_among (marks_of_standing (program_in clauses.now)
-        (locals_of locals.now) standing.entry)) }
+        (answering_of asked.now) standing.entry)) }
 {
     match standing {
         Standing::Choosing(_, machine) => {
-            outputs_by_choices(alloc, clauses, locals, paths, most, machine)
+            outputs_by_choices(alloc, clauses, asked, paths, most, machine)
         }
         Standing::Ended(out) => {
             let mut outs = Vec::new(alloc);
@@ -191,7 +189,8 @@ impl<'a> Branch<'a> {
     {
         let clauses = clauses_of_problem(p);
         let query = query_of_problem(p);
-        outs_of_standing(alloc, clauses, query.locals.items(), paths, self.standing)
+        let asked = Asked::of(alloc, query.locals.items())?;
+        outs_of_standing(alloc, clauses, &asked, paths, self.standing)
     }
 
     /// The outputs of the query whose paths begin with the branch's path, in order, as `run`, where the
@@ -218,13 +217,7 @@ impl<'a> Branch<'a> {
     {
         let clauses = clauses_of_problem(p);
         let query = query_of_problem(p);
-        outs_by_choices(
-            alloc,
-            clauses,
-            query.locals.items(),
-            paths,
-            most,
-            self.standing,
-        )
+        let asked = Asked::of(alloc, query.locals.items())?;
+        outs_by_choices(alloc, clauses, &asked, paths, most, self.standing)
     }
 }

@@ -1,9 +1,9 @@
 //! Searches that make at most so many choices.
 
-ghost use Rattle.std.specs.Prelude.{◌≡◌, ◌+◌, ◌<◌, ◌≤◌, ◌^◌, None, Some, IfOk, IfSome, length, map};
+ghost use Rattle.std.specs.Prelude.{◌≡◌, ◌+◌, ◌<◌, ◌≤◌, None, Some, IfOk, IfSome, map};
 ghost use Rattle.ap_defs.specs.Answers.{outs_of};
 ghost use Rattle.ap_defs.specs.Goals.{program_in};
-ghost use Rattle.ap_defs.specs.Types.{locals_of};
+ghost use Rattle.ap_machine.specs.Asking.{answering_of};
 ghost use Rattle.ap_machine.specs.Below.{AreClausesBelow};
 ghost use Rattle.ap_backchain.specs.Ends.{kept_out};
 ghost use Rattle.ap_turns.specs.Marks.{choices_from, choices_here};
@@ -12,10 +12,10 @@ ghost use Rattle.ap_machine.specs.Positions.{outs_from};
 
 use crate::choices::choice_at;
 use crate::run::{Paths, go_on};
-use ap_defs::goals::Local;
 use ap_defs::memory::Memory;
 use ap_defs::paths::Out;
 use ap_index::predicate::Predicate;
+use ap_machine::asked::Asked;
 use ap_machine::machine::Machine;
 use ap_paths::Limit;
 use std::alloc::Global;
@@ -40,21 +40,20 @@ fn left_after<'a>(clauses: &'a [Predicate<'a>], machine: &Machine<'a>, left: u64
 pub fn outputs_by_choices<'a>(
     alloc: Global,
     clauses: &'a [Predicate<'a>],
-    locals: &[Local],
+    asked: &Asked<'_>,
     paths: Paths,
     most: u64,
     first: Machine<'a>,
 ) -> Result<Option<Vec<Out>>, Memory>
     requires clauses { AreClausesBelow (program_in clauses.now) }
-    requires locals { length locals.now < 2 ^ 64 }
     ensures outs { IfOk result (λ o. IfSome o (λ v. outs_of v.items
         ≡ map (kept_out paths) (outs_from (program_in clauses.now)
-        (locals_of locals.now) (position_of first.entry)))) }
+        (answering_of asked.now) (position_of first.entry)))) }
     ensures few { IfOk result (λ o. IfSome o (λ v.
-        choices_from (program_in clauses.now) (locals_of locals.now)
+        choices_from (program_in clauses.now) (answering_of asked.now)
         (position_of first.entry) ≤ most)) }
     ensures many { IfOk result (λ o. o ≡ None →
-        most < choices_from (program_in clauses.now) (locals_of locals.now)
+        most < choices_from (program_in clauses.now) (answering_of asked.now)
         (position_of first.entry)) }
 {
     let mut outs = Vec::new(alloc);
@@ -70,7 +69,7 @@ pub fn outputs_by_choices<'a>(
         if !go_on(
             alloc,
             clauses,
-            locals,
+            asked,
             paths,
             &mut machine,
             &mut points,

@@ -1,10 +1,11 @@
 //! Whole searches.
 
-ghost use Rattle.std.specs.Prelude.{◌≡◌, ◌<◌, ◌≤◌, ◌^◌, ◌++◌, ◌∷◌, [], false, true, None, Some, IfOk, IfSome, OnOk, length, map};
+ghost use Rattle.std.specs.Prelude.{◌≡◌, ◌<◌, ◌≤◌, ◌++◌, ◌∷◌, [], false, true, None, Some, IfOk, IfSome, OnOk, map};
 ghost use Rattle.ap_defs.specs.Answers.{out_of, outs_of};
 ghost use Rattle.ap_defs.specs.Goals.{goal_of, program_in, query_of};
 ghost use Rattle.ap_defs.specs.Renaming.{IsGoalBelow, rename_goal};
-ghost use Rattle.ap_defs.specs.Types.{locals_of};
+ghost use Rattle.ap_machine.specs.Asking.{answering_of};
+ghost use Rattle.ap_machine.specs.Unbound.{answer_by_unbound};
 ghost use Rattle.ap_machine.specs.Below.{AreClausesBelow, IsQueryBelow};
 ghost use Rattle.ap_turns.specs.Ends.{end_out};
 ghost use Rattle.ap_backchain.specs.Ends.{kept_out};
@@ -21,11 +22,12 @@ use crate::letting_go::let_go;
 use crate::points::ChoicePoint;
 use crate::wanted::{is_wanting, wanted_after};
 use crate::ways::{choose_by, resume};
-use ap_defs::goals::{Local, Query};
+use ap_defs::goals::Query;
 use ap_defs::memory::Memory;
 use ap_defs::paths::Out;
 use ap_defs::terms::Term;
 use ap_index::predicate::Predicate;
+use ap_machine::asked::Asked;
 use ap_machine::frames::Frame;
 use ap_machine::machine::Machine;
 use ap_machine::saves::Save;
@@ -50,6 +52,24 @@ const FEW_TURNS: u64 = 2_048;
 // choice of its longest way.
 const TURNS_A_CHOICE: u64 = 8;
 
+/// The machine where the search of a query to a depth begins, whose answers look at the variables that were brought, or
+/// don't.
+fn beginning<'a>(
+    alloc: Global,
+    depth: u32,
+    query: &'a Query<Term>,
+    looks: bool,
+) -> Result<Machine<'a>, Memory>
+    requires { IsQueryBelow (query_of query.now) }
+    ensures { IfOk result (λ b. position_of b ≡ first_position depth (query_of query.now)) }
+{
+    let mut store = Store::new(alloc);
+    store.make(query.locals.items())?;
+    let mut machine = Machine::of(alloc, store, looks);
+    machine.push_goal(&query.goal, 0, depth)?;
+    Ok(machine)
+}
+
 /// The machine where the search of a query to a depth begins.
 pub fn first_machine<'a>(
     alloc: Global,
@@ -59,11 +79,20 @@ pub fn first_machine<'a>(
     requires { IsQueryBelow (query_of query.now) }
     ensures { IfOk result (λ b. position_of b ≡ first_position depth (query_of query.now)) }
 {
-    let mut store = Store::new(alloc);
-    store.make(query.locals.items())?;
-    let mut machine = Machine::of(alloc, store);
-    machine.push_goal(&query.goal, 0, depth)?;
-    Ok(machine)
+    beginning(alloc, depth, query, true)
+}
+
+/// The machine where a search begins, as `first_machine`, which is asked for bindings and conditions alone: what was
+/// brought needs no look.
+pub fn machine_alone<'a>(
+    alloc: Global,
+    depth: u32,
+    query: &'a Query<Term>,
+) -> Result<Machine<'a>, Memory>
+    requires { IsQueryBelow (query_of query.now) }
+    ensures { IfOk result (λ b. position_of b ≡ first_position depth (query_of query.now)) }
+{
+    beginning(alloc, depth, query, false)
 }
 
 /// The machine where the search of a query to a depth begins, in the memory of one that is done with.
@@ -160,28 +189,27 @@ fn turn_by<'a>(
 fn turn_on<'a>(
     alloc: Global,
     clauses: &'a [Predicate<'a>],
-    locals: &[Local],
+    asked: &Asked<'_>,
     paths: Paths,
     machine: &mut Machine<'a>,
     points: &mut Vec<ChoicePoint<'a>>,
     outs: &mut Vec<Out>,
 ) -> Result<bool, Memory>
     requires clauses { AreClausesBelow (program_in clauses.now) }
-    requires locals { length locals.now < 2 ^ 64 }
     requires points { HasPoints machine.old points.old }
     ensures left { IfOk result (λ b. positions_with b machine.new points.new
-        ≡ positions_followed (turned (program_in clauses.now) (locals_of locals.now)
+        ≡ positions_followed (turned (program_in clauses.now) (answering_of asked.now)
         (position_of machine.old)) (pending_positions machine.old points.old)) }
     ensures outs { OnOk result (outs_of outs.new.items
         ≡ outs_of outs.old.items
         ++ map (kept_out paths) (ended_outs (turned (program_in clauses.now)
-        (locals_of locals.now) (position_of machine.old)))) }
+        (answering_of asked.now) (position_of machine.old)))) }
     ensures points { OnOk result (HasPoints machine.new points.new) }
 {
     match machine.pop_goal() {
         Some(frame) => turn_by(alloc, clauses, paths, frame, machine, points, outs),
         None => {
-            let end = found(alloc, locals, machine)?;
+            let end = found(alloc, asked, machine)?;
             add_end(alloc, paths, machine, end, outs)?;
             Ok(false)
         }
@@ -194,7 +222,7 @@ fn turn_on<'a>(
 pub fn go_on<'a>(
     alloc: Global,
     clauses: &'a [Predicate<'a>],
-    locals: &[Local],
+    asked: &Asked<'_>,
     paths: Paths,
     machine: &mut Machine<'a>,
     points: &mut Vec<ChoicePoint<'a>>,
@@ -202,23 +230,22 @@ pub fn go_on<'a>(
     wanted: &mut Limit,
 ) -> Result<bool, Memory>
     requires clauses { AreClausesBelow (program_in clauses.now) }
-    requires locals { length locals.now < 2 ^ 64 }
     requires points { HasPoints machine.old points.old }
     ensures left { IfOk result (λ b. positions_with b machine.new points.new
-        ≡ positions_followed (turned (program_in clauses.now) (locals_of locals.now)
+        ≡ positions_followed (turned (program_in clauses.now) (answering_of asked.now)
         (position_of machine.old)) (pending_positions machine.old points.old)) }
     ensures outs { OnOk result (outs_of outs.new.items
         ≡ outs_of outs.old.items
         ++ map (kept_out paths) (ended_outs (turned (program_in clauses.now)
-        (locals_of locals.now) (position_of machine.old)))) }
+        (answering_of asked.now) (position_of machine.old)))) }
     ensures points { OnOk result (HasPoints machine.new points.new) }
     ensures none { IfOk result (λ b. b ≡ false → points.new.items ≡ []) }
     ensures wanted { OnOk result (wanted.new
         ≡ limits.wanted_after wanted.old (ended_outs (turned (program_in clauses.now)
-        (locals_of locals.now) (position_of machine.old)))) }
+        (answering_of asked.now) (position_of machine.old)))) }
 {
     let before = outs.len();
-    let goes = turn_on(alloc, clauses, locals, paths, machine, points, outs)?;
+    let goes = turn_on(alloc, clauses, asked, paths, machine, points, outs)?;
     *wanted = wanted_after(*wanted, &outs[before..]);
     if goes {
         let_go(machine, points);
@@ -233,16 +260,15 @@ pub fn go_on<'a>(
 pub fn outputs_from<'a>(
     alloc: Global,
     clauses: &'a [Predicate<'a>],
-    locals: &[Local],
+    asked: &Asked<'_>,
     paths: Paths,
     limit: Limit,
     first: Machine<'a>,
 ) -> Result<Vec<Out>, Memory>
     requires clauses { AreClausesBelow (program_in clauses.now) }
-    requires locals { length locals.now < 2 ^ 64 }
     ensures { IfOk result (λ v. outs_of v.items
         ≡ map (kept_out paths) (part limit (outs_from (program_in clauses.now)
-        (locals_of locals.now) (position_of first.entry)))) }
+        (answering_of asked.now) (position_of first.entry)))) }
 {
     let mut outs = Vec::new(alloc);
     let mut points = Vec::new(alloc);
@@ -252,7 +278,7 @@ pub fn outputs_from<'a>(
         if !go_on(
             alloc,
             clauses,
-            locals,
+            asked,
             paths,
             &mut machine,
             &mut points,
@@ -279,16 +305,15 @@ fn is_wide(turns: u64, longest: usize) -> bool
 fn outputs_soon<'a>(
     alloc: Global,
     clauses: &'a [Predicate<'a>],
-    locals: &[Local],
+    asked: &Asked<'_>,
     paths: Paths,
     limit: Limit,
     first: Machine<'a>,
 ) -> Result<Option<Vec<Out>>, Memory>
     requires clauses { AreClausesBelow (program_in clauses.now) }
-    requires locals { length locals.now < 2 ^ 64 }
     ensures outs { IfOk result (λ o. IfSome o (λ v. outs_of v.items
         ≡ map (kept_out paths) (part limit (outs_from (program_in clauses.now)
-        (locals_of locals.now) (position_of first.entry))))) }
+        (answering_of asked.now) (position_of first.entry))))) }
     ensures many { IfOk result (λ o. o ≡ None →
         few_turns < turns_from (program_in clauses.now) (position_of first.entry)) }
 {
@@ -305,7 +330,7 @@ fn outputs_soon<'a>(
         if !go_on(
             alloc,
             clauses,
-            locals,
+            asked,
             paths,
             &mut machine,
             &mut points,
@@ -334,12 +359,14 @@ pub fn outputs_of_short_query<'a>(
     requires query { IsQueryBelow (query_of query.now) }
     ensures outs { IfOk result (λ o. IfSome o (λ v. outs_of v.items
         ≡ map (kept_out paths) (part limit (outs_from (program_in clauses.now)
-        (query_of query.now).locals (first_position depth (query_of query.now)))))) }
+        (answer_by_unbound (query_of query.now).locals)
+        (first_position depth (query_of query.now)))))) }
     ensures many { IfOk result (λ o. o ≡ None →
         few_turns < query_turns (program_in clauses.now) depth (query_of query.now)) }
 {
     let first = first_machine(alloc, depth, query)?;
-    outputs_soon(alloc, clauses, query.locals.items(), paths, limit, first)
+    let asked = Asked::of(alloc, query.locals.items())?;
+    outputs_soon(alloc, clauses, &asked, paths, limit, first)
 }
 
 /// The outputs from where the search of a query to a depth begins up to the last answer that is wanted,
@@ -356,8 +383,10 @@ pub fn outputs_of_query<'a>(
     requires query { IsQueryBelow (query_of query.now) }
     ensures { IfOk result (λ v. outs_of v.items
         ≡ map (kept_out paths) (part limit (outs_from (program_in clauses.now)
-        (query_of query.now).locals (first_position depth (query_of query.now))))) }
+        (answer_by_unbound (query_of query.now).locals)
+        (first_position depth (query_of query.now))))) }
 {
     let first = first_machine(alloc, depth, query)?;
-    outputs_from(alloc, clauses, query.locals.items(), paths, limit, first)
+    let asked = Asked::of(alloc, query.locals.items())?;
+    outputs_from(alloc, clauses, &asked, paths, limit, first)
 }

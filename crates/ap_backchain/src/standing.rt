@@ -1,8 +1,10 @@
 //! Searches up to their first choice or their end.
 
-ghost use Rattle.std.specs.Prelude.{◌≡◌, ◌^◌, ◌<◌, [], IfOk, List as list, length, take};
+ghost use Rattle.std.specs.Prelude.{◌≡◌, ◌^◌, ◌<◌, [], IfOk, length, take};
 ghost use Rattle.ap_defs.specs.Goals.{Clauses, program_in};
-ghost use Rattle.ap_defs.specs.Types.{NominalLocal, locals_of};
+ghost use Rattle.ap_defs.specs.Types.{locals_of};
+ghost use Rattle.ap_search.specs.Records.{Answering};
+ghost use Rattle.ap_machine.specs.Unbound.{answer_by_unbound};
 ghost use Rattle.ap_machine.specs.Below.{AreClausesBelow};
 ghost use Rattle.ap_turns.specs.Standings.{IsChoosing, marks_of_standing, path_of_standing};
 ghost use Rattle.ap_turns.specs.Marks.{marks_from};
@@ -20,8 +22,8 @@ use std::alloc::Global;
 
 /// The search failed with the first so many of the choices on the way to a machine.
 fn failed_at<'a>(machine: Machine<'a>, made: usize) -> Standing<'a>
-    ensures marks { (program : Clauses) (locals : list NominalLocal) →
-        marks_of_standing program locals result ≡ [] }
+    ensures marks { (program : Clauses) (answering : Answering) →
+        marks_of_standing program answering result ≡ [] }
     ensures path { path_of_standing result ≡ take made machine.entry.path.items }
     ensures choosing { (program : Clauses) → IsChoosing program result }
 {
@@ -40,8 +42,8 @@ pub fn advance<'a>(
     requires clauses { AreClausesBelow (program_in clauses.now) }
     requires locals { length locals.now < 2 ^ 64 }
     ensures marks { IfOk result (λ s. marks_of_standing (program_in clauses.now)
-        (locals_of locals.now) s
-        ≡ marks_from (program_in clauses.now) (locals_of locals.now)
+        (answer_by_unbound (locals_of locals.now)) s
+        ≡ marks_from (program_in clauses.now) (answer_by_unbound (locals_of locals.now))
         (position_of machine.entry)) }
     ensures path { IfOk result (λ s. path_of_standing s ≡ machine.entry.path.items) }
     ensures choosing { IfOk result (λ s. IsChoosing (program_in clauses.now) s) }

@@ -1,10 +1,12 @@
 //! One choice of a branch.
 
-ghost use Rattle.std.specs.Prelude.{◌≡◌, ◌≤◌, ◌-◌, ◌^◌, ◌<◌, ◌++◌, [], ◌∷◌, IfOk, List as list, length, map};
+ghost use Rattle.std.specs.Prelude.{◌≡◌, ◌≤◌, ◌-◌, ◌^◌, ◌<◌, ◌++◌, [], ◌∷◌, IfOk, length, map};
 ghost use Rattle.ap_defs.specs.Goals.{Clauses, clause_of, goal_of, program_in};
 ghost use Rattle.ap_defs.specs.Renaming.{AreBelow, IsGoalBelow, rename_goal, rename_term as renamed};
 ghost use Rattle.ap_defs.specs.Terms.{term_of};
-ghost use Rattle.ap_defs.specs.Types.{NominalLocal, locals_of};
+ghost use Rattle.ap_defs.specs.Types.{locals_of};
+ghost use Rattle.ap_search.specs.Records.{Answering};
+ghost use Rattle.ap_machine.specs.Unbound.{answer_by_unbound};
 ghost use Rattle.ap_search.specs.FitStates.{AreFitClauses};
 ghost use Rattle.ap_search.specs.Marks.{mark_path};
 ghost use Rattle.ap_search.specs.Prefixes.{beginning};
@@ -27,8 +29,8 @@ use std::alloc::Global;
 
 /// The search failed after one more choice.
 fn failed_after<'a>(path: Vec<u32>, choice: u32) -> Result<Standing<'a>, Memory>
-    ensures marks { IfOk result (λ s. (program : Clauses) (locals : list NominalLocal) →
-        marks_of_standing program locals s ≡ []) }
+    ensures marks { IfOk result (λ s. (program : Clauses) (answering : Answering) →
+        marks_of_standing program answering s ≡ []) }
     ensures path { IfOk result (λ s. path_of_standing s ≡ path.items ++ choice ∷ []) }
     ensures choosing { IfOk result (λ s. (program : Clauses) → IsChoosing program s) }
 {
@@ -56,10 +58,11 @@ fn choose_clause<'a>(
     requires low { 1 ≤ choice }
     requires high { choice ≤ length candidates.now }
     ensures marks { IfOk result (λ s. marks_of_standing (program_in clauses.now)
-        (locals_of locals.now) s
+        (answer_by_unbound (locals_of locals.now)) s
         ≡ beginning mark_path (machine.entry.path.items ++ choice ∷ []) (clauses_marks
-        (program_in clauses.now) (locals_of locals.now) (frame.entry.depth - 1) (map
-        (renamed frame.entry.base) (map term_of args.now)) (map clause_of candidates.now)
+        (program_in clauses.now) (answer_by_unbound (locals_of locals.now))
+        (frame.entry.depth - 1) (map (renamed frame.entry.base) (map term_of args.now))
+        (map clause_of candidates.now)
         (position_of machine.entry))) }
     ensures path { IfOk result (λ s. path_of_standing s ≡ machine.entry.path.items ++ choice ∷ []) }
     ensures choosing { IfOk result (λ s. IsChoosing (program_in clauses.now) s) }
@@ -97,9 +100,9 @@ fn choose_side<'a>(
     requires locals { length locals.now < 2 ^ 64 }
     requires below { IsGoalBelow (next_of machine) (rename_goal frame.base (goal_of side.now)) }
     ensures marks { IfOk result (λ s. marks_of_standing (program_in clauses.now)
-        (locals_of locals.now) s
-        ≡ marks_from (program_in clauses.now) (locals_of locals.now) (with_goal
-        frame.entry.depth (rename_goal frame.entry.base (goal_of side.now)) (with_choice choice
+        (answer_by_unbound (locals_of locals.now)) s
+        ≡ marks_from (program_in clauses.now) (answer_by_unbound (locals_of locals.now))
+        (with_goal frame.entry.depth (rename_goal frame.entry.base (goal_of side.now)) (with_choice choice
         (position_of machine.entry)))) }
     ensures path { IfOk result (λ s. path_of_standing s ≡ machine.entry.path.items ++ choice ∷ []) }
     ensures choosing { IfOk result (λ s. IsChoosing (program_in clauses.now) s) }
@@ -127,10 +130,10 @@ fn choose_by<'a>(
     requires choice { IsAmongWays choice (choice_of_goal (program_in clauses.now) frame.depth
         (rename_goal frame.base (goal_of frame.goal.now))) }
     ensures marks { IfOk result (λ s. marks_of_standing (program_in clauses.now)
-        (locals_of locals.now) s
+        (answer_by_unbound (locals_of locals.now)) s
         ≡ beginning mark_path (machine.entry.path.items ++ choice ∷ []) (goal_marks
-        (program_in clauses.now) (locals_of locals.now) frame.entry.depth (rename_goal
-        frame.entry.base (goal_of frame.entry.goal.now)) (position_of machine.entry))) }
+        (program_in clauses.now) (answer_by_unbound (locals_of locals.now))
+        frame.entry.depth (rename_goal frame.entry.base (goal_of frame.entry.goal.now)) (position_of machine.entry))) }
     ensures path { IfOk result (λ s. path_of_standing s ≡ machine.entry.path.items ++ choice ∷ []) }
     ensures choosing { IfOk result (λ s. IsChoosing (program_in clauses.now) s) }
 {
@@ -177,9 +180,9 @@ pub fn choose<'a>(
     requires choosing { IsChoosing (program_in clauses.now) standing }
     requires choice { IsChoiceAt choice standing }
     ensures marks { IfOk result (λ s. marks_of_standing (program_in clauses.now)
-        (locals_of locals.now) s
+        (answer_by_unbound (locals_of locals.now)) s
         ≡ beginning mark_path (path_of_standing standing.entry ++ choice ∷ []) (marks_of_standing
-        (program_in clauses.now) (locals_of locals.now) standing.entry)) }
+        (program_in clauses.now) (answer_by_unbound (locals_of locals.now)) standing.entry)) }
     ensures path { IfOk result (λ s. path_of_standing s
         ≡ path_of_standing standing.entry ++ choice ∷ []) }
     ensures choosing { IfOk result (λ s. IsChoosing (program_in clauses.now) s) }

@@ -1,5 +1,5 @@
 -- What was seen of the variables that were brought.
-use Rattle.std.proofs.Common.{◌≡◌, ℕ, zero, suc, ◌+◌, ◌<◌, ◌≤◌, ◌||◌, true, false, List, [], ◌∷◌, ◌++◌, filter, get_or, length, map, take, drop, refl, sym, ap, ap₂, ◌∙◌, append_assoc, length-append, true≢false, arith}
+use Rattle.std.proofs.Common.{◌≡◌, ℕ, zero, suc, ◌+◌, ◌<◌, ◌≤◌, true, false, List, [], ◌∷◌, ◌++◌, filter, get_or, length, map, take, drop, refl, sym, ap, ap₂, ◌∙◌, append_assoc, length-append, true≢false, arith}
 use Rattle.std.proofs.lemmas.List.{get_or_append_left, length-take-le, take-append-drop, take_all}
 use Rattle.std.proofs.Math.Seq.{get_or-append_seam}
 use Rattle.std.specs.Prelude.{Bool, if◌then◌else◌, not}

@@ -1,8 +1,10 @@
+pub mod Asking
 pub mod Below
 pub mod BelowProps
 pub mod Brought
 pub mod Chains
 pub mod Closed
+pub mod FreeVars
 pub mod GoalStackProps
 pub mod GoalStacks
 pub mod Looks

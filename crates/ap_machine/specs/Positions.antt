@@ -11,10 +11,9 @@ use Rattle.ap_defs.specs.Resolution.{State, fresh_for_each, kinds_of, next_numbe
 use Rattle.ap_defs.specs.Substitution.{under}
 use Rattle.ap_defs.specs.Terms as terms
 use Rattle.ap_defs.specs.Terms.{NominalTerm}
-use Rattle.ap_defs.specs.Types.{NominalLocal}
 use Rattle.ap_defs.specs.Unification.{Unified, reduce_all, unify}
+use Rattle.ap_search.specs.Records.{Answering}
 use Rattle.ap_search.specs.Continuations.{Waiting, Writing, outputs_alone, stack_then}
-use Rattle.ap_machine.specs.Unbound.{answer_by_unbound}
 
 -- The goals that wait, the first one first; the path and the state; and the variables that clauses and `exists` brought.
 pub record Position : Type 0 where
@@ -98,32 +97,32 @@ turned_goal program d (exists x g) p = goes (with_goal d g (with_vars (x ∷ [])
 turned_goal program d (new a g) p =
     goes_with (with_goal d g p) (reduced_state p.state (reduce_all p.state.bindings (fresh_for_each a (free_vars g))))
 
-abbrev pub turned_by : Clauses → List NominalLocal → List Waiting → Position → Turned
-turned_by program locals [] p = ends (found p.path (answer_by_unbound locals p.state p.brought))
-turned_by program locals (w ∷ ws) p = turned_goal program w.depth w.goal (record p { waiting = ws })
+abbrev pub turned_by : Clauses → Answering → List Waiting → Position → Turned
+turned_by program answering [] p = ends (found p.path (answering p.state p.brought))
+turned_by program answering (w ∷ ws) p = turned_goal program w.depth w.goal (record p { waiting = ws })
 
 -- what the first goal that waits makes of a machine; where none waits, the search has found its state
-abbrev pub turned : Clauses → List NominalLocal → Position → Turned
-turned program locals p = turned_by program locals p.waiting p
+abbrev pub turned : Clauses → Answering → Position → Turned
+turned program answering p = turned_by program answering p.waiting p
 
 -- what is written of the goals that wait, of several machines, and of what a turn makes of one
-abbrev pub written_from : {R : Type 0} → Writing R → Clauses → List NominalLocal → Position → List R
-written_from w program locals p = stack_then w program (answer_by_unbound locals) p.waiting p.path p.state p.brought
+abbrev pub written_from : {R : Type 0} → Writing R → Clauses → Answering → Position → List R
+written_from w program answering p = stack_then w program answering p.waiting p.path p.state p.brought
 
-abbrev pub written_from_each : {R : Type 0} → Writing R → Clauses → List NominalLocal → List Position → List R
-written_from_each w program locals [] = []
-written_from_each w program locals (p ∷ ps) = written_from w program locals p ++ written_from_each w program locals ps
+abbrev pub written_from_each : {R : Type 0} → Writing R → Clauses → Answering → List Position → List R
+written_from_each w program answering [] = []
+written_from_each w program answering (p ∷ ps) = written_from w program answering p ++ written_from_each w program answering ps
 
-abbrev pub written_of_turned : {R : Type 0} → Writing R → Clauses → List NominalLocal → Turned → List R
-written_of_turned w program locals (ends o) = w.output o ∷ []
-written_of_turned w program locals (goes ps) = written_from_each w program locals ps
+abbrev pub written_of_turned : {R : Type 0} → Writing R → Clauses → Answering → Turned → List R
+written_of_turned w program answering (ends o) = w.output o ∷ []
+written_of_turned w program answering (goes ps) = written_from_each w program answering ps
 
 -- the outputs of the goals that wait
-abbrev pub outs_from : Clauses → List NominalLocal → Position → List NominalOut
+abbrev pub outs_from : Clauses → Answering → Position → List NominalOut
 outs_from = written_from outputs_alone
 
-abbrev pub outs_from_each : Clauses → List NominalLocal → List Position → List NominalOut
+abbrev pub outs_from_each : Clauses → Answering → List Position → List NominalOut
 outs_from_each = written_from_each outputs_alone
 
-abbrev pub outs_of_turned : Clauses → List NominalLocal → Turned → List NominalOut
+abbrev pub outs_of_turned : Clauses → Answering → Turned → List NominalOut
 outs_of_turned = written_of_turned outputs_alone

@@ -1,24 +1,25 @@
 //! Answers of states that were found.
 
-ghost use Rattle.std.specs.Prelude.{◌≡◌, ◌<◌, ◌^◌, [], IfOk, length, map};
+ghost use Rattle.std.specs.Prelude.{◌≡◌, [], IfOk, map};
 ghost use Rattle.std.specs.Option.{option_to_list};
 ghost use Rattle.ap_defs.specs.Answers.{answer_of, kind_at, typed_var_of, typed_vars, with_type};
 ghost use Rattle.ap_defs.specs.Terms.{term_of};
 ghost use Rattle.ap_defs.specs.Types.{locals_of};
+ghost use Rattle.ap_machine.specs.Asking.{answer_alone, answering_of};
 ghost use Rattle.ap_machine.specs.Brought.{vars_of_brought};
 ghost use Rattle.ap_machine.specs.Looks.{HasLooked};
 ghost use Rattle.ap_machine.specs.Unbound.{answer_by_unbound, vars_besides};
 ghost use Rattle.ap_machine.specs.Views.{state_in};
 ghost use Rattle.ap_store.specs.Views.{kinds, versions};
 
+use crate::asked::Asked;
 use crate::brought::Brought;
 use crate::chains::closed;
 use crate::looks::Look;
-use crate::renaming::vars_of_locals;
 use crate::unbound::unbound_of;
 use crate::vars::{add_vars, add_vars_of_conds, add_vars_of_terms, make_ascending};
 use ap_defs::copies::copy_type;
-use ap_defs::goals::{Kind, Local};
+use ap_defs::goals::Kind;
 use ap_defs::lists::List;
 use ap_defs::memory::Memory;
 use ap_defs::outcomes::Answer;
@@ -76,23 +77,21 @@ fn typed_of(alloc: Global, store: &Store<'_>, vars: &[Var]) -> Result<Vec<(Var, 
     Ok(all)
 }
 
-/// The answer of a state that was found, to a query with these identifiers, where clauses and
-/// `exists` brought these variables, of which this was seen.
-pub fn answer_in(
+/// The answer of a state that was found, with all that there is to be seen, where clauses and `exists` brought these
+/// variables, of which this was seen.
+fn answer_in(
     alloc: Global,
-    locals: &[Local],
+    asked: &Asked<'_>,
     store: &Store<'_>,
     look: &Look,
     brought: &[Brought<'_>],
 ) -> Result<Answer, Memory>
-    requires few { length locals.now < 2 ^ 64 }
-    requires look { HasLooked (versions store.now) brought.now look.now }
+    requires { HasLooked (versions store.now) brought.now look.now }
     ensures { IfOk result (λ a. answer_of a
-        ≡ answer_by_unbound (locals_of locals.now) (state_in store.now)
+        ≡ answer_by_unbound (locals_of asked.now.locals.now) (state_in store.now)
         (vars_of_brought brought.now)) }
 {
-    let free = vars_of_locals(alloc, 0, locals)?;
-    let binds = closed(alloc, store, &free)?;
+    let binds = closed(alloc, store, &asked.free)?;
     let others = unbound_of(alloc, store, look, brought)?;
     let conds = store.conds(alloc)?;
     let vars = vars_among(alloc, &binds, &conds, &others)?;
@@ -102,4 +101,37 @@ pub fn answer_in(
         conds: List::of(conds),
         vars: List::of(vars),
     })
+}
+
+/// The bindings and the conditions of a state that was found.
+fn answer_alone(alloc: Global, asked: &Asked<'_>, store: &Store<'_>) -> Result<Answer, Memory>
+    ensures { IfOk result (λ a. answer_of a
+        ≡ answer_alone (locals_of asked.now.locals.now) (state_in store.now) []) }
+{
+    let binds = closed(alloc, store, &asked.free)?;
+    let conds = store.conds(alloc)?;
+    Ok(Answer {
+        binds: List::of(binds),
+        conds: List::of(conds),
+        vars: List::of(Vec::new(alloc)),
+    })
+}
+
+/// The answer of a state that was found, where clauses and `exists` brought these variables, of which this was seen.
+pub fn answer_to(
+    alloc: Global,
+    asked: &Asked<'_>,
+    store: &Store<'_>,
+    look: &Look,
+    brought: &[Brought<'_>],
+) -> Result<Answer, Memory>
+    requires { HasLooked (versions store.now) brought.now look.now }
+    ensures { IfOk result (λ a. answer_of a
+        ≡ answering_of asked.now (state_in store.now) (vars_of_brought brought.now)) }
+{
+    if asked.is_alone {
+        answer_alone(alloc, asked, store)
+    } else {
+        answer_in(alloc, asked, store, look, brought)
+    }
 }

@@ -6,6 +6,7 @@
 mod along;
 pub mod answer_copies;
 pub mod answers;
+pub mod asked;
 pub mod brought;
 mod chains;
 pub mod closing;

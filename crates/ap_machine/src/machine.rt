@@ -22,13 +22,15 @@ use std::alloc::Global;
 /// The machine of a search: what is bound and holds; the goal stack; the choices on the way; and the
 /// variables that clauses and `exists` brought, in order and in ranges, with what was seen of them. The search
 /// goes on in place, and can go back to where it was at an earlier choice point. The memory of unification's
-/// work is kept from one to the next. It is `found` where a state was found since the variables were looked at.
+/// work is kept from one to the next. It is `found` where a state was found since the variables were looked at, if
+/// answers look at them.
 pub struct Machine<'a> {
     pub store: Store<'a>,
     pub goals: GoalStack<'a>,
     pub path: Vec<u32>,
     pub brought: Vec<Brought<'a>>,
     pub look: Look,
+    looks: bool,
     found: bool,
     alloc: Global,
     pub work: Work<'a>,
@@ -45,6 +47,7 @@ impl Drop for Machine<'_> {
             path: _path,
             brought: _brought,
             look: _look,
+            looks: _looks,
             found: _found,
             alloc: _alloc,
             work: _work,
@@ -62,8 +65,9 @@ impl<'a> Machine<'a> {
     ghost use Rattle.ap_machine.specs.Tracks.{GoesFrom, IsSaveWithin, back_to, next_in, position_at};
     ghost use Rattle.ap_machine.specs.Views.{state_in, waiting_of};
 
-    /// A machine with a store in which no goal waits. It takes no memory.
-    pub fn of(alloc: Global, store: Store<'a>) -> Machine<'a>
+    /// A machine with a store in which no goal waits, whose answers look at the variables that were brought, or don't.
+    /// It takes no memory.
+    pub fn of(alloc: Global, store: Store<'a>, looks: bool) -> Machine<'a>
         ensures position { position_of result
             ≡ record { waiting = []; path = []; state = state_in store.entry; brought = [] } }
         ensures store { result.store ≡ store.entry }
@@ -74,6 +78,7 @@ impl<'a> Machine<'a> {
             path: Vec::new(alloc),
             brought: Vec::new(alloc),
             look: Look::new(alloc),
+            looks,
             found: false,
             alloc,
             work: Work::new(alloc),
@@ -151,7 +156,7 @@ impl<'a> Machine<'a> {
         match self.goals.pop() {
             Some(frame) => Some(frame),
             None => {
-                self.found = true;
+                self.found = self.looks;
                 None
             }
         }
@@ -167,6 +172,7 @@ impl<'a> Machine<'a> {
             path,
             brought: _brought,
             look: _look,
+            looks: _looks,
             found: _found,
             alloc: _alloc,
             work: _work,

@@ -2,3 +2,4 @@ mod BeginningLemmas
 mod LineLemmas
 mod ComingLemmas
 mod RunLemmas
+mod ShownLemmas

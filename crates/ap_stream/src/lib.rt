@@ -9,6 +9,7 @@ mod at_end;
 mod builder;
 mod report;
 mod search;
+mod shown;
 
 pub use at_end::AtEnd;
 pub use builder::ReportBuilder;

@@ -1,23 +1,27 @@
 //! A search that gives its outputs one at a time, without their paths.
 
-ghost use Rattle.std.specs.Prelude.{◌≡◌, ◌-◌, ◌<◌, ◌≤◌, ◌^◌, ◌∷◌, [], false, true, None, Some, IfOk, IfSome, OnOk, length, map, slice_get};
+ghost use Rattle.std.specs.Prelude.{◌≡◌, ℕ, ◌-◌, ◌<◌, ◌≤◌, ◌^◌, ◌∷◌, [], false, true, None, Some, IfOk, IfSome, OnOk, length, map, slice_get};
 ghost use Rattle.ap_defs.specs.Answers.{out_of, outs_of, query_outs};
 ghost use Rattle.ap_defs.specs.Goals.{NominalQuery, program_in};
+ghost use Rattle.ap_defs.specs.Lines.{query_lines};
 ghost use Rattle.ap_defs.specs.Types.{locals_of};
+ghost use Rattle.ap_machine.specs.Asking.{answer_alone, answering_of};
 ghost use Rattle.ap_machine.specs.Below.{AreClausesBelow};
-ghost use Rattle.ap_stream.specs.Coming.{IsSearching, outs_coming, outs_to_come};
+ghost use Rattle.ap_stream.specs.Coming.{IsSearching, outs_coming, outs_coming_by, outs_to_come};
+ghost use Rattle.ap_stream.specs.Shown.{shown_locals};
 ghost use Rattle.ap_backchain.specs.Ends.{without_path};
-ghost use Rattle.ap_backchain.specs.Problems.{HasQuery, clauses_in, queries_in};
+ghost use Rattle.ap_backchain.specs.Problems.{HasQuery, clauses_in, program_of_problem, queries_in};
 ghost use Rattle.ap_backchain.specs.Searches.{HasPoints};
 ghost use Rattle.ap_paths.specs.Limits.{IsWanting, part};
 
 use ap_backchain::points::ChoicePoint;
 use ap_backchain::problem::{Problem, clauses_of_problem, query_of_problem};
-use ap_backchain::run::{Paths, first_machine, go_on, machine_again};
+use ap_backchain::run::{Paths, go_on, machine_again, machine_alone};
 use ap_defs::goals::Local;
 use ap_defs::memory::Memory;
 use ap_defs::paths::Out;
 use ap_index::predicate::Predicate;
+use ap_machine::asked::Asked;
 use ap_machine::machine::Machine;
 use ap_paths::Limit;
 use std::alloc::Global;
@@ -74,21 +78,20 @@ fn taken(outs: &mut Vec<Out>) -> Option<Out>
 fn next_output<'a>(
     alloc: Global,
     clauses: &'a [Predicate<'a>],
-    locals: &[Local],
+    asked: &Asked<'_>,
     machine: &mut Machine<'a>,
     points: &mut Vec<ChoicePoint<'a>>,
     wanted: &mut Limit,
 ) -> Result<Option<Out>, Memory>
     requires clauses { AreClausesBelow (program_in clauses.now) }
-    requires locals { length locals.now < 2 ^ 64 }
     requires points { HasPoints machine.old points.old }
     ensures some { IfOk result (λ o. IfSome o (λ out.
-        outs_coming (program_in clauses.now) (locals_of locals.now)
+        outs_coming (program_in clauses.now) (answering_of asked.now)
         wanted.old machine.old points.old
-        ≡ out_of out ∷ outs_coming (program_in clauses.now) (locals_of locals.now)
+        ≡ out_of out ∷ outs_coming (program_in clauses.now) (answering_of asked.now)
         wanted.new machine.new points.new)) }
     ensures none { IfOk result (λ o. o ≡ None →
-        outs_coming (program_in clauses.now) (locals_of locals.now)
+        outs_coming (program_in clauses.now) (answering_of asked.now)
         wanted.old machine.old points.old ≡ []) }
     ensures points { OnOk result (HasPoints machine.new points.new) }
 {
@@ -97,7 +100,7 @@ fn next_output<'a>(
         if !go_on(
             alloc,
             clauses,
-            locals,
+            asked,
             Paths::Left,
             machine,
             points,
@@ -123,10 +126,16 @@ impl<'a> Search<'a> {
             slice_get (queries_in p.now) (p.now.query - 1) ≡ Some q →
             outs_to_come s
             ≡ map without_path (part limit (query_outs (clauses_in p.now) p.now.depth q))) }
+        ensures lines { IfOk result (λ s. (q : NominalQuery) (k : ℕ) →
+            slice_get (queries_in p.now) (p.now.query - 1) ≡ Some q →
+            query_lines (program_of_problem p.now) k (shown_locals q.locals)
+            (outs_coming_by (answer_alone (shown_locals q.locals)) s)
+            ≡ query_lines (program_of_problem p.now) k q.locals
+            (map without_path (part limit (query_outs (clauses_in p.now) p.now.depth q)))) }
     {
         let clauses = clauses_of_problem(p);
         let query = query_of_problem(p);
-        let machine = first_machine(alloc, p.depth, query)?;
+        let machine = machine_alone(alloc, p.depth, query)?;
         Ok(Search {
             clauses,
             locals: query.locals.items(),
@@ -144,6 +153,12 @@ impl<'a> Search<'a> {
             slice_get (queries_in p.now) (p.now.query - 1) ≡ Some q →
             outs_to_come s
             ≡ map without_path (part limit (query_outs (clauses_in p.now) p.now.depth q))) }
+        ensures lines { IfOk result (λ s. (q : NominalQuery) (k : ℕ) →
+            slice_get (queries_in p.now) (p.now.query - 1) ≡ Some q →
+            query_lines (program_of_problem p.now) k (shown_locals q.locals)
+            (outs_coming_by (answer_alone (shown_locals q.locals)) s)
+            ≡ query_lines (program_of_problem p.now) k q.locals
+            (map without_path (part limit (query_outs (clauses_in p.now) p.now.depth q)))) }
     {
         let clauses = clauses_of_problem(p);
         let query = query_of_problem(p);
@@ -178,6 +193,12 @@ impl<'a> Search<'a> {
             slice_get (queries_in p.now) (p.now.query - 1) ≡ Some q →
             outs_to_come s
             ≡ map without_path (part limit (query_outs (clauses_in p.now) p.now.depth q))) }
+        ensures lines { IfOk result (λ s. (q : NominalQuery) (k : ℕ) →
+            slice_get (queries_in p.now) (p.now.query - 1) ≡ Some q →
+            query_lines (program_of_problem p.now) k (shown_locals q.locals)
+            (outs_coming_by (answer_alone (shown_locals q.locals)) s)
+            ≡ query_lines (program_of_problem p.now) k q.locals
+            (map without_path (part limit (query_outs (clauses_in p.now) p.now.depth q)))) }
     {
         match earlier {
             Some(search) => search.again(p, limit),
@@ -203,6 +224,31 @@ impl<'a> Search<'a> {
         !is_wanting(self.wanted)
     }
 
+    /// The next output with what is asked for in place of an answer of its own, in order. None says that there is no
+    /// more.
+    pub(crate) fn next_by(
+        &mut self,
+        alloc: Global,
+        asked: &Asked<'_>,
+    ) -> Result<Option<Out>, Memory>
+        requires { IsSearching self.old }
+        ensures searching { OnOk result (IsSearching self.new) }
+        ensures some { IfOk result (λ o. IfSome o (λ out.
+            outs_coming_by (answering_of asked.now) self.old
+            ≡ out_of out ∷ outs_coming_by (answering_of asked.now) self.new)) }
+        ensures none { IfOk result (λ o. o ≡ None →
+            outs_coming_by (answering_of asked.now) self.old ≡ []) }
+    {
+        next_output(
+            alloc,
+            self.clauses,
+            asked,
+            &mut self.machine,
+            &mut self.points,
+            &mut self.wanted,
+        )
+    }
+
     /// The next output, in order. None says that there is no more.
     pub fn next(&mut self, alloc: Global) -> Result<Option<Out>, Memory>
         requires { IsSearching self.old }
@@ -211,10 +257,11 @@ impl<'a> Search<'a> {
             outs_to_come self.old ≡ out_of out ∷ outs_to_come self.new)) }
         ensures none { IfOk result (λ o. o ≡ None → outs_to_come self.old ≡ []) }
     {
+        let asked = Asked::of(alloc, self.locals)?;
         next_output(
             alloc,
             self.clauses,
-            self.locals,
+            &asked,
             &mut self.machine,
             &mut self.points,
             &mut self.wanted,

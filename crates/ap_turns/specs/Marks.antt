@@ -6,20 +6,19 @@ use Rattle.ap_defs.specs.HeadKeys.{kept_clauses}
 use Rattle.ap_defs.specs.Paths.{Choice}
 use Rattle.ap_defs.specs.Resolution.{State}
 use Rattle.ap_defs.specs.Terms.{NominalTerm}
-use Rattle.ap_defs.specs.Types.{NominalLocal}
 use Rattle.ap_search.specs.Continuations.{Waiting, Writing, calls_then, clauses_then, goal_then}
 use Rattle.ap_search.specs.Marks.{NominalMark, out, choice, with_choices, stack_marks}
+use Rattle.ap_search.specs.Records.{Answering}
 use Rattle.ap_machine.specs.Positions.{Position, Turned, ends, goes, written_from, written_from_each, written_of_turned}
-use Rattle.ap_machine.specs.Unbound.{answer_by_unbound}
 
 -- the marks of the goals that wait
-abbrev pub marks_from : Clauses → List NominalLocal → Position → List NominalMark
+abbrev pub marks_from : Clauses → Answering → Position → List NominalMark
 marks_from = written_from with_choices
 
-abbrev pub marks_from_each : Clauses → List NominalLocal → List Position → List NominalMark
+abbrev pub marks_from_each : Clauses → Answering → List Position → List NominalMark
 marks_from_each = written_from_each with_choices
 
-abbrev pub marks_of_turned : Clauses → List NominalLocal → Turned → List NominalMark
+abbrev pub marks_of_turned : Clauses → Answering → Turned → List NominalMark
 marks_of_turned = written_of_turned with_choices
 
 -- how many choices are among the marks
@@ -29,8 +28,8 @@ choices_among (out o ∷ ms) = choices_among ms
 choices_among (choice p w ∷ ms) = suc (choices_among ms)
 
 -- how many choices a search makes from a machine
-abbrev pub choices_from : Clauses → List NominalLocal → Position → ℕ
-choices_from program locals p = choices_among (marks_from program locals p)
+abbrev pub choices_from : Clauses → Answering → Position → ℕ
+choices_from program answering p = choices_among (marks_from program answering p)
 
 -- among how many the first goal chooses, if it chooses: an atom that isn't cut among clauses, and a disjunction between its sides
 abbrev pub choice_of_atom : Clauses → ℕ → ℕ → Option ℕ
@@ -47,12 +46,12 @@ IsAmongWays k None = ⊥
 IsAmongWays k (Some w) = (1 ≤ k) × (k ≤ w)
 
 -- the marks of a goal in front of those that wait, and of clauses that an atom can enter
-abbrev pub goal_marks : Clauses → List NominalLocal → ℕ → NominalGoal → Position → List NominalMark
-goal_marks program locals d g p = goal_then with_choices (calls_then with_choices program d) g (stack_marks program (answer_by_unbound locals) p.waiting) p.path p.state p.brought
+abbrev pub goal_marks : Clauses → Answering → ℕ → NominalGoal → Position → List NominalMark
+goal_marks program answering d g p = goal_then with_choices (calls_then with_choices program d) g (stack_marks program answering p.waiting) p.path p.state p.brought
 
-abbrev pub clauses_marks : Clauses → List NominalLocal → ℕ → List NominalTerm → List NominalClause → Position → List NominalMark
-clauses_marks program locals d ts cs p =
-    clauses_then (goal_then with_choices (calls_then with_choices program d)) ts (stack_marks program (answer_by_unbound locals) p.waiting) 1 cs p.path p.state p.brought
+abbrev pub clauses_marks : Clauses → Answering → ℕ → List NominalTerm → List NominalClause → Position → List NominalMark
+clauses_marks program answering d ts cs p =
+    clauses_then (goal_then with_choices (calls_then with_choices program d)) ts (stack_marks program answering p.waiting) 1 cs p.path p.state p.brought
 
 abbrev pub choice_of : Clauses → List Waiting → Option ℕ
 choice_of program [] = None

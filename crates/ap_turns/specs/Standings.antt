@@ -2,7 +2,6 @@
 use Rattle.std.specs.Prelude.{◌≡◌, ◌≤◌, ℕ, List, [], ◌∷◌, Option, Some, None}
 use Rattle.ap_defs.specs.Answers.{out_of, out_path}
 use Rattle.ap_defs.specs.Goals.{Clauses}
-use Rattle.ap_defs.specs.Types.{NominalLocal}
 use Rattle.ap_defs.specs.declared.paths.Node.{Node}
 use Rattle.ap_defs.specs.declared.paths.Node.TheVariants as nodes
 use Rattle.ap_defs.specs.declared.paths.Out.TheVariants as code
@@ -10,6 +9,7 @@ use Rattle.ap_search.specs.Marks.{NominalMark, out}
 use Rattle.ap_machine.specs.Machines.{position_of}
 use Rattle.ap_turns.specs.Marks.{choice_of, marks_from, told_of}
 use Rattle.ap_turns.specs.declared.standing.Standing.{Standing}
+use Rattle.ap_search.specs.Records.{Answering}
 use Rattle.ap_turns.specs.declared.standing.Standing.TheVariants as standings
 
 abbrev pub path_of_standing : Standing → List ℕ
@@ -18,10 +18,10 @@ path_of_standing (standings.Ended o) = out_path (out_of o)
 path_of_standing (standings.Failed path) = path.items
 
 -- the marks of the search from where a branch stands
-abbrev pub marks_of_standing : Clauses → List NominalLocal → Standing → List NominalMark
-marks_of_standing program locals (standings.Choosing w p) = marks_from program locals (position_of p)
-marks_of_standing program locals (standings.Ended o) = out (out_of o) ∷ []
-marks_of_standing program locals (standings.Failed path) = []
+abbrev pub marks_of_standing : Clauses → Answering → Standing → List NominalMark
+marks_of_standing program answering (standings.Choosing w p) = marks_from program answering (position_of p)
+marks_of_standing program answering (standings.Ended o) = out (out_of o) ∷ []
+marks_of_standing program answering (standings.Failed path) = []
 
 -- where it chooses it knows among how many
 abbrev pub IsChoosing : Clauses → Standing → Type 0

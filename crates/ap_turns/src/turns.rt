@@ -8,6 +8,7 @@ ghost use Rattle.ap_defs.specs.Terms.{term_of};
 ghost use Rattle.ap_defs.specs.Types.{locals_of};
 ghost use Rattle.ap_turns.specs.Ends.{end_out};
 ghost use Rattle.ap_turns.specs.Marks.{choice_of, choice_of_goal};
+ghost use Rattle.ap_machine.specs.Asking.{answering_of};
 ghost use Rattle.ap_machine.specs.Machines.{next_of, position_of, track_of};
 ghost use Rattle.ap_turns.specs.Turned.{turned_of};
 ghost use Rattle.ap_machine.specs.Positions.{turned, turned_goal};
@@ -19,7 +20,8 @@ use ap_defs::goals::{Goal, Local};
 use ap_defs::memory::Memory;
 use ap_defs::terms::{Name, Term, Var};
 use ap_index::predicate::Predicate;
-use ap_machine::answers::answer_in;
+use ap_machine::answers::answer_to;
+use ap_machine::asked::Asked;
 use ap_machine::frames::Frame;
 use ap_machine::free_vars::free_vars_of;
 use ap_machine::machine::Machine;
@@ -202,15 +204,14 @@ pub fn turn_of_goal<'a>(
 }
 
 /// The end at a machine in which no goal waits.
-pub fn found<'a>(alloc: Global, locals: &[Local], machine: &Machine<'a>) -> Result<End, Memory>
-    requires { length locals.now < 2 ^ 64 }
+pub fn found<'a>(alloc: Global, asked: &Asked<'_>, machine: &Machine<'a>) -> Result<End, Memory>
     ensures { IfOk result (λ e. end_out machine.now.path.items e
-        ≡ found_at machine.now.path.items (answer_by_unbound (locals_of locals.now)
+        ≡ found_at machine.now.path.items (answering_of asked.now
         (position_of machine.now).state (position_of machine.now).brought)) }
 {
-    let answer = answer_in(
+    let answer = answer_to(
         alloc,
-        locals,
+        asked,
         &machine.store,
         &machine.look,
         &machine.brought,
@@ -230,12 +231,14 @@ pub fn take_turn<'a>(
         ≡ None }
     requires locals { length locals.now < 2 ^ 64 }
     ensures turned { IfOk result (λ r. turned_of r (position_of machine.new)
-        ≡ turned (program_in clauses.now) (locals_of locals.now) (position_of machine.old)) }
+        ≡ turned (program_in clauses.now) (answer_by_unbound (locals_of locals.now))
+        (position_of machine.old)) }
     ensures goes { OnOk result (GoesFrom (track_of machine.old) (track_of machine.new)) }
 {
     match machine.pop_goal() {
         None => {
-            let end = found(alloc, locals, machine)?;
+            let asked = Asked::of(alloc, locals)?;
+            let end = found(alloc, &asked, machine)?;
             Ok(Turn::Ends(end))
         }
         Some(frame) => turn_of_goal(alloc, clauses, frame, machine),

@@ -2,11 +2,10 @@ use Rattle.std.proofs.Common.{◌≡◌, List, map, sym, subst}
 use Rattle.std.specs.Prelude.{IfOk}
 use Rattle.ap_defs.specs.Answers.{NominalOut, outs_of}
 use Rattle.ap_defs.specs.Goals.{program_in}
-use Rattle.ap_defs.specs.Types.{locals_of}
 use Rattle.ap_search.proofs.MarkLemmas.{marks_stack}
 use Rattle.ap_backchain.specs.Ends.{kept_out}
 use Rattle.ap_machine.specs.Machines.{position_of}
-use Rattle.ap_machine.specs.Unbound.{answer_by_unbound}
+use Rattle.ap_machine.specs.Asking.{answering_of}
 use Rattle.ap_backchain.proofs.branch.outs_of_standing.Goals as goal
 
 pub returns-in-Choosing : goal.returns-in-Choosing
@@ -14,4 +13,4 @@ returns-in-Choosing c =
     let p = position_of c.in-Choosing.machine in
     rw c.in-Choosing.is
     (subst (λ (os : List NominalOut). IfOk c.outputs_from.result (λ v. outs_of v.items ≡ map (kept_out c.args.paths) os))
-    (sym (marks_stack (program_in c.args.clauses.now) (answer_by_unbound (locals_of c.args.locals.now)) p.waiting p.path p.state p.brought)) c.outputs_from.ensures)
+    (sym (marks_stack (program_in c.args.clauses.now) (answering_of c.args.asked.now) p.waiting p.path p.state p.brought)) c.outputs_from.ensures)

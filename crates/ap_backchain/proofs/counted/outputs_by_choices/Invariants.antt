@@ -1,7 +1,6 @@
 use Rattle.std.proofs.Common.{◌≡◌, ◌+◌, ◌++◌, ◌∷◌, map}
 use Rattle.ap_defs.specs.Answers.{outs_of}
 use Rattle.ap_defs.specs.Goals.{program_in}
-use Rattle.ap_defs.specs.Types.{locals_of}
 use Rattle.ap_paths.specs.declared.limits.Limit.TheVariants as limits
 use Rattle.ap_backchain.specs.Ends.{kept_out}
 use Rattle.ap_turns.specs.Marks.{choices_among, marks_from, marks_from_each}
@@ -9,17 +8,18 @@ use Rattle.ap_machine.specs.Machines.{position_of}
 use Rattle.ap_machine.specs.Positions.{outs_from, outs_from_each}
 use Rattle.ap_backchain.specs.Searches.{HasPoints, pending_positions}
 use Rattle.ap_backchain.specs.Turns.{turns_from_each}
+use Rattle.ap_machine.specs.Asking.{answering_of}
 use Rattle.ap_backchain.proofs.counted.outputs_by_choices.Given as goal
 
 -- the outputs so far and those to come are all, and so it is of the choices
 abbrev pub invariant-searching : goal.invariant-searching
 invariant-searching l = record {
-  all : outs_of l.outs.items ++ map (kept_out l.paths) (outs_from_each (program_in l.clauses) (locals_of l.locals) (position_of l.machine ∷ pending_positions l.machine l.points))
-      ≡ map (kept_out l.paths) (outs_from (program_in l.clauses) (locals_of l.locals) (position_of l.fn.first));
+  all : outs_of l.outs.items ++ map (kept_out l.paths) (outs_from_each (program_in l.clauses) (answering_of l.asked) (position_of l.machine ∷ pending_positions l.machine l.points))
+      ≡ map (kept_out l.paths) (outs_from (program_in l.clauses) (answering_of l.asked) (position_of l.fn.first));
   points : HasPoints l.machine l.points;
   wanted : l.wanted ≡ limits.All;
-  count : l.left + choices_among (marks_from (program_in l.clauses) (locals_of l.locals) (position_of l.fn.first))
-      ≡ l.most + choices_among (marks_from_each (program_in l.clauses) (locals_of l.locals) (position_of l.machine ∷ pending_positions l.machine l.points));
+  count : l.left + choices_among (marks_from (program_in l.clauses) (answering_of l.asked) (position_of l.fn.first))
+      ≡ l.most + choices_among (marks_from_each (program_in l.clauses) (answering_of l.asked) (position_of l.machine ∷ pending_positions l.machine l.points));
 }
 
 abbrev pub decreases-searching : goal.decreases-searching

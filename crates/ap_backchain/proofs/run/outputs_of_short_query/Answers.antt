@@ -8,14 +8,15 @@ use Rattle.ap_backchain.specs.Ends.{kept_out}
 use Rattle.ap_backchain.specs.Turns.{few_turns, turns_from}
 use Rattle.ap_machine.specs.Machines.{position_of}
 use Rattle.ap_machine.specs.Positions.{Position, outs_from}
+use Rattle.ap_machine.specs.Unbound.{answer_by_unbound}
 use Rattle.ap_backchain.proofs.run.outputs_of_short_query.Goals as goal
 
 pub returns-clause-outs : goal.returns-clause-outs
 returns-clause-outs c =
     let program = program_in c.args.clauses.now in
     subst (λ (os : List NominalOut). IfOk c.outputs_soon.result (λ o. IfSome o (λ v. outs_of v.items ≡ os)))
-    (ap (λ ls. map (kept_out c.args.paths) (part c.args.limit (outs_from program (locals_of ls) (position_of c.in_ok-first.first)))) c.items.ensures
-    ∙ ap (λ (p : Position). map (kept_out c.args.paths) (part c.args.limit (outs_from program (locals_of c.args.query.now.locals) p))) c.in_ok-first.ensures) c.outputs_soon.ensures.outs
+    (ap (λ answering. map (kept_out c.args.paths) (part c.args.limit (outs_from program answering (position_of c.in_ok-first.first)))) (c.in_ok-asked.ensures ∙ ap (λ ls. answer_by_unbound (locals_of ls)) c.items.ensures)
+    ∙ ap (λ (p : Position). map (kept_out c.args.paths) (part c.args.limit (outs_from program (answer_by_unbound (locals_of c.args.query.now.locals)) p))) c.in_ok-first.ensures) c.outputs_soon.ensures.outs
 
 pub returns-clause-many : goal.returns-clause-many
 returns-clause-many c =

@@ -7,6 +7,7 @@ use Rattle.ap_search.specs.Prefixes.{beginning}
 use Rattle.ap_turns.specs.Standings.{marks_of_standing, path_of_standing}
 use Rattle.ap_turns.specs.Marks.{IsAmongWays, choice_of, marks_from}
 use Rattle.ap_machine.specs.Positions.{Position}
+use Rattle.ap_machine.specs.Unbound.{answer_by_unbound}
 use Rattle.ap_backchain.proofs.step.choose.Goals as goal
 
 pub choose_by-requires-clause-goal : goal.choose_by-requires-clause-goal
@@ -22,9 +23,9 @@ choose_by-requires-clause-choice c =
 
 pub returns-clause-marks : goal.returns-clause-marks
 returns-clause-marks c =
-    let program = program_in c.args.clauses.now in let ls = locals_of c.args.locals.now in
-    let e = sym (ap (λ (p : Position). beginning mark_path (p.path ++ c.args.choice ∷ []) (marks_from program ls p)) c.in-Some.ensures.some.0) in
-    rw c.in-Choosing.is (subst (λ (ms : List NominalMark). IfOk c.choose_by.result (λ s. marks_of_standing program ls s ≡ ms)) e c.choose_by.ensures.marks)
+    let program = program_in c.args.clauses.now in let answering = answer_by_unbound (locals_of c.args.locals.now) in
+    let e = sym (ap (λ (p : Position). beginning mark_path (p.path ++ c.args.choice ∷ []) (marks_from program answering p)) c.in-Some.ensures.some.0) in
+    rw c.in-Choosing.is (subst (λ (ms : List NominalMark). IfOk c.choose_by.result (λ s. marks_of_standing program answering s ≡ ms)) e c.choose_by.ensures.marks)
 
 pub returns-clause-path : goal.returns-clause-path
 returns-clause-path c =

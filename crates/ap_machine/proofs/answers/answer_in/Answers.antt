@@ -14,8 +14,8 @@ pub returns : goal.returns
 returns c =
     let s = state_in c.args.store.now in
     let others = c.in_ok-others.others.items in
-    answer_is (locals_of c.args.locals.now) s (vars_of_brought c.args.brought.now) others (map term_of c.of.result) c.of-2.result (map typed_var_of c.of-3.result) c.in_ok-others.ensures
-    (ap (map term_of) c.of.ensures ∙ c.in_ok-binds.ensures ∙ ap (closed_vars s) (c.deref.ensures.value ∙ c.in_ok-free.ensures))
+    answer_is (locals_of c.args.asked.now.locals.now) s (vars_of_brought c.args.brought.now) others (map term_of c.of.result) c.of-2.result (map typed_var_of c.of-3.result) c.in_ok-others.ensures
+    (ap (map term_of) c.of.ensures ∙ c.in_ok-binds.ensures ∙ ap (closed_vars s) (c.deref.ensures.value ∙ c.args.asked.now.frees))
     (c.of-2.ensures ∙ c.in_ok-conds.ensures)
     (ap (map typed_var_of) c.of-3.ensures ∙ c.in_ok-vars-2.ensures
     ∙ ap (typed_vars (kinds c.args.store.now))

@@ -1,4 +1,4 @@
-use Rattle.std.proofs.Common.{◌≡◌, List, sym, ap, ◌∙◌}
+use Rattle.std.proofs.Common.{List, sym, ap, ◌∙◌}
 use Rattle.ap_defs.specs.Answers.{NominalOut}
 use Rattle.ap_defs.specs.Goals.{program_of}
 use Rattle.ap_defs.specs.Types.{locals_of}

@@ -1,5 +1,5 @@
-use Rattle.std.proofs.Common.{◌≡◌, ◌+◌, ◌-◌, Some, drop, ap, ◌∙◌}
-use Rattle.std.specs.Prelude.{Option, slice_get}
+use Rattle.std.proofs.Common.{◌+◌, ◌-◌, drop, ap, ◌∙◌}
+use Rattle.std.specs.Prelude.{slice_get}
 use Rattle.std.proofs.lemmas.Result.{IfOk-weaker}
 use Rattle.ap_defs.specs.Goals.{NominalQuery, program_of, query_of}
 use Rattle.ap_defs.specs.Lines.{query_lines}

@@ -1,6 +1,6 @@
 use Rattle.std.proofs.Common.{◌≡◌, ◌∷◌, []}
 use Rattle.ap_defs.specs.Goals.{program_in}
-use Rattle.ap_defs.specs.Types.{locals_of}
+use Rattle.ap_machine.specs.Asking.{answering_of}
 use Rattle.ap_stream.specs.Coming.{outs_coming}
 use Rattle.ap_machine.specs.Machines.{position_of}
 use Rattle.ap_backchain.specs.Searches.{HasPoints, pending_positions}
@@ -10,8 +10,8 @@ use Rattle.ap_stream.proofs.search.next_output.Given as goal
 -- no output came so far
 abbrev pub invariant-searching : goal.invariant-searching
 invariant-searching l = record {
-  coming : outs_coming (program_in l.clauses) (locals_of l.locals) l.wanted l.machine l.points
-      ≡ outs_coming (program_in l.clauses) (locals_of l.locals) l.fn.wanted l.fn.machine l.fn.points;
+  coming : outs_coming (program_in l.clauses) (answering_of l.asked) l.wanted l.machine l.points
+      ≡ outs_coming (program_in l.clauses) (answering_of l.asked) l.fn.wanted l.fn.machine l.fn.points;
   none : l.outs.items ≡ [];
   points : HasPoints l.machine l.points;
 }

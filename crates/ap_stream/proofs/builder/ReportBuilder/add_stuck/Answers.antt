@@ -1,4 +1,4 @@
-use Rattle.std.proofs.Common.{◌≡◌, ℕ, zero, ◌+◌, ◌++◌, ◌∙◌, [], replicate, ap, sym, arith}
+use Rattle.std.proofs.Common.{◌≡◌, ℕ, ◌+◌, ◌++◌, ◌∙◌, [], replicate, ap, sym, arith}
 use Rattle.ap_defs.specs.Answers.{stuck}
 use Rattle.ap_defs.specs.Lines.{count_of, is_cut, is_found, is_stuck}
 use Rattle.ap_stream.specs.Builders.{built_text, report_with, totals_by}

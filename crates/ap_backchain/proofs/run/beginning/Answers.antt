@@ -11,7 +11,7 @@ use Rattle.ap_machine.specs.Machines.{next_of}
 use Rattle.ap_machine.specs.Positions.{Position, with_goal}
 use Rattle.ap_machine.specs.Views.{state_in}
 use Rattle.ap_turns.proofs.FitLemmas.{goal_zero}
-use Rattle.ap_backchain.proofs.run.first_machine.Goals as goal
+use Rattle.ap_backchain.proofs.run.beginning.Goals as goal
 
 pub push_goal-requires : goal.push_goal-requires
 push_goal-requires c =
