@@ -11,7 +11,6 @@ use ap_backchain::problem::Problem;
 use ap_defs::memory::Memory;
 use ap_defs::paths::Path;
 use ap_index::index::Index;
-use ap_paths::Limit;
 use ap_program::restricted::Restricted;
 use std::io::ErrorKind;
 
@@ -22,8 +21,8 @@ pub enum Search<'q> {
     Outputs,
     /// The branches at some paths, and its lines.
     Branches,
-    /// What a visit of a path answers, where so many answers are wanted.
-    Visit(Limit, &'q Path),
+    /// What a visit of a path answers that makes so many choices at most.
+    Visit(Option<u64>, &'q Path),
 }
 
 /// What is asked of a text.
@@ -42,7 +41,7 @@ fn put_searched(out: &mut Spelling, search: Search<'_>, problem: &Problem<'_>) -
     match search {
         Search::Outputs => put_outputs(out, problem),
         Search::Branches => put_branches(out, problem),
-        Search::Visit(limit, path) => put_visit(out, problem, limit, path),
+        Search::Visit(most, path) => put_visit(out, problem, most, path),
     }
 }
 

@@ -1,7 +1,7 @@
 //! What visits of paths answer, below which few choices are made, many, and no end of them.
 //!
-//! The file `visits` has parts. The first line of a part has a depth, how many answers are wanted, 0 for all, and the
-//! choices of a path; the text behind it has the query that is searched.
+//! The file `visits` has parts. The first line of a part has a depth, how many choices the visit makes at most, or the
+//! word `any`, and the choices of a path; the text behind it has the query that is searched.
 ghost use Rattle.ap_backchain.specs.Problems.{HasQuery};
 
 use crate::questions::{Question, Search, put_answer};
@@ -10,7 +10,7 @@ use ap_backchain::problem::Problem;
 use ap_backchain::run::Paths;
 use ap_defs::memory::Memory;
 use ap_defs::paths::Path;
-use ap_paths::{Limit, Tree, Visit};
+use ap_paths::{Tree, Visit};
 use ap_replay::problem_tree::ProblemTree;
 use ap_replay::replay::at;
 use std::alloc::{AllocError, Global};
@@ -24,25 +24,26 @@ fn path_in(out: &mut Spelling, line: &str) -> Result<Path, AllocError> {
     Ok(Path::of(choices))
 }
 
-/// How many answers a line asks for.
-fn limit_of(out: &mut Spelling, line: &str) -> Limit {
-    match out.number(line.split(' ').nth(1).unwrap_or("")) {
-        0 => Limit::All,
-        wanted => Limit::First(wanted as u64),
+/// How many choices a line asks a visit to make at most.
+fn most_of(out: &mut Spelling, line: &str) -> Option<u64> {
+    let word = line.split(' ').nth(1).unwrap_or("");
+    if word == "any" {
+        return None;
     }
+    Some(out.number(word) as u64)
 }
 
-/// What a visit of a path answers in a search for so many answers.
+/// What a visit of a path answers that makes so many choices at most.
 fn visit_at(
     alloc: Global,
     problem: &Problem<'_>,
-    limit: Limit,
+    most: Option<u64>,
     path: &Path,
 ) -> Result<Visit, Memory>
     requires { HasQuery problem.now }
 {
     match at(alloc, problem, path) {
-        Ok(_branch) => ProblemTree::of(*problem, Paths::Kept, limit).visit(alloc, path),
+        Ok(_branch) => ProblemTree::of(*problem, Paths::Kept).visit(alloc, path, most),
         Err(_refused) => Err(Memory),
     }
 }
@@ -51,12 +52,12 @@ fn visit_at(
 pub fn put_visit(
     out: &mut Spelling,
     problem: &Problem<'_>,
-    limit: Limit,
+    most: Option<u64>,
     path: &Path,
 ) -> Result<(), Memory>
     requires { HasQuery problem.now }
 {
-    match visit_at(out.alloc(), problem, limit, path)? {
+    match visit_at(out.alloc(), problem, most, path)? {
         Visit::Outs(runs) => out.put_number(runs.items().len() as u64, " runs of outputs\n"),
         Visit::Kids(ways) => {
             out.put("the ways ");
@@ -71,10 +72,10 @@ pub fn put_visit(
 pub fn visit_text(out: &mut Spelling, line: &str, text: &str) {
     out.put_all(&[line, ": "]);
     let depth = out.number(line.split(' ').next().unwrap_or(""));
-    let limit = limit_of(out, line);
+    let most = most_of(out, line);
     match path_in(out, line) {
         Ok(path) => {
-            let visit = Search::Visit(limit, &path);
+            let visit = Search::Visit(most, &path);
             put_answer(out, Question::Search(depth, visit), text);
         }
         Err(_) => out.lose(),

@@ -1,6 +1,6 @@
 //! What a path is, entered in the book.
 
-ghost use Rattle.std.specs.Prelude.{◌≡◌, ℕ, true, [], ◌∷◌, List as list, IfOk};
+ghost use Rattle.std.specs.Prelude.{◌≡◌, ℕ, true, [], ◌∷◌, Option, List as list, IfOk};
 ghost use Rattle.ap_paths.specs.declared.entries.Entry.{Entry};
 ghost use Rattle.ap_paths.specs.declared.entries.Entry.TheVariants.{Split, Done};
 ghost use Rattle.ap_paths.specs.Entries.{kids, outs, visit_of};
@@ -36,7 +36,7 @@ fn split_planned<R: Wait, T: Tree>(
     requires own { OwnPlanned (T.choices tree.now) (T.plan tree.now) (book_limit book.now)
         seat.old.number seat.old.seen }
     requires planned { InChoiceTree (T.choices tree.now) path.now
-        × (T.plan tree.now path.now ≡ kids given.now) }
+        × (most : Option ℕ) × (T.plan tree.now most path.now ≡ kids given.now) }
     requires ascends { Ascends 1 given.now }
     ensures same { SameSeat seat.old seat.new }
     ensures own { OwnPlanned (T.choices tree.now) (T.plan tree.now) (book_limit book.now)
@@ -61,7 +61,7 @@ fn done_planned<R: Wait, T: Tree>(
     requires own { OwnPlanned (T.choices tree.now) (T.plan tree.now) (book_limit book.now)
         seat.old.number seat.old.seen }
     requires planned { InChoiceTree (T.choices tree.now) path.now
-        × (T.plan tree.now path.now ≡ outs (outs_of_runs given.items)) }
+        × (most : Option ℕ) × (T.plan tree.now most path.now ≡ outs (outs_of_runs given.items)) }
     ensures same { SameSeat seat.old seat.new }
     ensures own { OwnPlanned (T.choices tree.now) (T.plan tree.now) (book_limit book.now)
         seat.new.number seat.new.seen }
@@ -73,14 +73,20 @@ fn done_planned<R: Wait, T: Tree>(
     book.done(rt, seat, path, given)
 }
 
-/// What the tree answers at a path of it. Its kids ascend, and are choices of the path.
-pub fn visit_planned<T: Tree>(alloc: Global, tree: &T, path: &Path) -> Result<Visit, Memory>
+/// What the tree answers at a path of it, where so much is searched there at most. Its kids ascend, and
+/// are choices of the path.
+pub fn visit_planned<T: Tree>(
+    alloc: Global,
+    tree: &T,
+    path: &Path,
+    most: Option<u64>,
+) -> Result<Visit, Memory>
     requires { InChoiceTree (T.choices tree.now) path.now }
-    ensures plan { IfOk result (λ v. visit_of v ≡ T.plan tree.now path.now) }
-    ensures kids { (ks : list ℕ) → T.plan tree.now path.now ≡ kids ks →
+    ensures plan { IfOk result (λ v. visit_of v ≡ T.plan tree.now most path.now) }
+    ensures kids { (ks : list ℕ) → T.plan tree.now most path.now ≡ kids ks →
         Ascends 1 ks × AllAreChoices (T.choices tree.now path.now) ks }
 {
-    tree.visit(alloc, path)
+    tree.visit(alloc, path, most)
 }
 
 /// Enters a split, and takes the kids. Where the path is not open, nothing is done.
@@ -99,7 +105,7 @@ pub fn run_kids<W: Shape, R: Wait, T: Tree>(
     requires own { OwnPlanned (T.choices tree.now) (T.plan tree.now) (book_limit book.now)
         seat.old.number seat.old.seen }
     requires planned { InChoiceTree (T.choices tree.now) path.now
-        × (T.plan tree.now path.now ≡ kids given.now) }
+        × (most : Option ℕ) × (T.plan tree.now most path.now ≡ kids given.now) }
     requires kids { Ascends 1 given.now × AllAreChoices (T.choices tree.now path.now) given.now }
     ensures same { SameSeat seat.old seat.new }
     ensures own { OwnPlanned (T.choices tree.now) (T.plan tree.now) (book_limit book.now)
@@ -131,7 +137,7 @@ pub fn run_outs<R: Wait, T: Tree>(
     requires own { OwnPlanned (T.choices tree.now) (T.plan tree.now) (book_limit book.now)
         seat.old.number seat.old.seen }
     requires planned { InChoiceTree (T.choices tree.now) path.now
-        × (T.plan tree.now path.now ≡ outs (outs_of_runs given)) }
+        × (most : Option ℕ) × (T.plan tree.now most path.now ≡ outs (outs_of_runs given)) }
     ensures same { SameSeat seat.old seat.new }
     ensures own { OwnPlanned (T.choices tree.now) (T.plan tree.now) (book_limit book.now)
         seat.new.number seat.new.seen }

@@ -68,10 +68,3 @@ IsTrueOf c at (stop seat) = Unit {0}
 abbrev pub AreTrue : Choices → Outputs → List TreeEntry → Type 0
 AreTrue c at [] = Unit {0}
 AreTrue c at (e ∷ es) = IsTrueOf c at e × AreTrue c at es
-
--- an entry is by the plan of its path
-abbrev pub FollowsPlan : (List ℕ → Plan) → TreeEntry → Type 0
-FollowsPlan plan (split seat p ks) = plan p ≡ entries.kids ks
-FollowsPlan plan (done seat p os) = plan p ≡ entries.outs os
-FollowsPlan plan (skip seat p n) = Unit {0}
-FollowsPlan plan (stop seat) = Unit {0}

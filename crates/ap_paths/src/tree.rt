@@ -30,8 +30,8 @@ pub trait Tree: Sync {
     /// The outputs below a path.
     ghost at: { Self → list ℕ → list NominalOut };
 
-    /// What `visit` answers: the tree and the path alone fix it.
-    ghost plan: { Self → list ℕ → Plan };
+    /// What `visit` answers: the tree, the path and how much is searched at most fix it.
+    ghost plan: { Self → Option ℕ → list ℕ → Plan };
 
     /// The number of choices at a path of the tree, or none where it ends without one.
     fn width(&self, alloc: Global, path: &Path) -> Result<Option<u32>, Memory>
@@ -44,12 +44,14 @@ pub trait Tree: Sync {
         ensures { IfOk result (λ v. outs_of_runs v.items ≡ at self.now path.now) };
 
     /// The kids of a path that are worth a visit, only where it is at a choice, or the outputs
-    /// below it. Each choice that is left out has no outputs below it.
-    fn visit(&self, alloc: Global, path: &Path) -> Result<Visit, Memory>
+    /// below it. Each choice that is left out has no outputs below it. `most` tells how much is
+    /// searched below the path at most before its kids are told (with none, all of it), in steps
+    /// of the tree.
+    fn visit(&self, alloc: Global, path: &Path, most: Option<u64>) -> Result<Visit, Memory>
         requires { InChoiceTree (choices self.now) path.now }
-        ensures { IfOk result (λ v. visit_of v ≡ plan self.now path.now) };
+        ensures { IfOk result (λ v. visit_of v ≡ plan self.now most path.now) };
 
     ghost branches: { (t : Self) → IsTree (choices t) (at t) };
 
-    ghost planned: { (t : Self) (p : list ℕ) → InChoiceTree (choices t) p → IsPlan (choices t) (at t) p (plan t p) };
+    ghost planned: { (t : Self) (most : Option ℕ) (p : list ℕ) → InChoiceTree (choices t) p → IsPlan (choices t) (at t) p (plan t most p) };
 }

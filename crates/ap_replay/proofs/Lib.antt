@@ -1,4 +1,3 @@
-pub mod BoundLemmas
 pub mod ReplayLemmas
 pub mod WholeLemmas
 pub mod Shared

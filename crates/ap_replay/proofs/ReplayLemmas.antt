@@ -18,8 +18,7 @@ use Rattle.ap_backchain.specs.declared.problem.Problem.{Problem}
 use Rattle.ap_backchain.specs.declared.run.Paths.{Paths}
 use Rattle.ap_paths.specs.Entries as entries
 use Rattle.ap_paths.specs.Entries.{Plan}
-use Rattle.ap_paths.specs.declared.limits.Limit.{Limit}
-use Rattle.ap_replay.specs.ProblemTrees.{bound_at, choices_below, choices_below_of, choices_of, is_shared, kid_numbers, kept_of, kept_outs, node_kids, outs_of_asked, problem_choices, problem_kept, problem_plan, query_in, shared_out}
+use Rattle.ap_replay.specs.ProblemTrees.{choices_below, choices_below_of, choices_of, is_shared, kid_numbers, kept_of, kept_outs, node_kids, outs_of_asked, problem_choices, problem_kept, query_in, shared_out, shared_plan}
 
 there_is : (qs : List NominalQuery) (k : ℕ) → k < length qs → (q : NominalQuery) × (slice_get qs k ≡ Some q)
 there_is [] k h = absurd (omega arith)
@@ -86,7 +85,7 @@ no_choice : (b : Bool) (os : List NominalOut) → entries.outs os ≡ plan_by b 
 no_choice true os = refl
 no_choice false os = refl
 
-module _ (limit : Limit) (paths : Paths) (p : Problem) (q : NominalQuery) (asked : query_in p ≡ Some q) (path : List ℕ) where
+module _ (most : ℕ) (paths : Paths) (p : Problem) (q : NominalQuery) (asked : query_in p ≡ Some q) (path : List ℕ) where
   same_kept : problem_kept p path ≡ query_kept (clauses_in p) p.depth q path
   same_kept = ap (λ o. kept_of (clauses_in p) p.depth o path) asked
 
@@ -108,31 +107,31 @@ module _ (limit : Limit) (paths : Paths) (p : Problem) (q : NominalQuery) (asked
   many_planned true ks e h = ap (λ o. shared_out o (kept_outs paths p path)) (sym (same_kept ∙ e))
   many_planned false ks e h = absurd cc
 
-  few_outs : choices_below p path ≤ bound_at limit path → entries.outs (kept_outs paths p path) ≡ problem_plan limit paths p path
-  few_outs few = few_planned (nat_lt (bound_at limit path) (choices_below p path)) (le-ltb (bound_at limit path) (choices_below p path) few)
+  few_outs : choices_below p path ≤ most → entries.outs (kept_outs paths p path) ≡ shared_plan paths p most path
+  few_outs few = few_planned (nat_lt (most) (choices_below p path)) (le-ltb (most) (choices_below p path) few)
 
-  many_kids : (n : Node) (ks : List ℕ) → IsNodeAt (clauses_in p) p.depth q path n → node_kids n ≡ Some ks → bound_at limit path < choices_below p path → entries.kids ks ≡ problem_plan limit paths p path
+  many_kids : (n : Node) (ks : List ℕ) → IsNodeAt (clauses_in p) p.depth q path n → node_kids n ≡ Some ks → most < choices_below p path → entries.kids ks ≡ shared_plan paths p most path
   many_kids (nodes.Choice w kept) ks at h many =
       let same : ks ≡ kept = cc in
-      let yes : nat_lt (bound_at limit path) (choices_below p path) ≡ true = lt-ltb (bound_at limit path) (choices_below p path) many in
-      ap entries.kids same ∙ many_planned (nat_lt (bound_at limit path) (choices_below p path)) kept (ap (option_map (λ (c : Choice). c.kept)) at) yes
+      let yes : nat_lt (most) (choices_below p path) ≡ true = lt-ltb (most) (choices_below p path) many in
+      ap entries.kids same ∙ many_planned (nat_lt (most) (choices_below p path)) kept (ap (option_map (λ (c : Choice). c.kept)) at) yes
   many_kids nodes.Answer ks at h many = absurd cc
   many_kids nodes.Cut ks at h many = absurd cc
   many_kids nodes.Stuck ks at h many = absurd cc
   many_kids nodes.Failed ks at h many = absurd cc
 
-  no_kids_at : (n : Node) → IsNodeAt (clauses_in p) p.depth q path n → node_kids n ≡ None → entries.outs (kept_outs paths p path) ≡ problem_plan limit paths p path
+  no_kids_at : (n : Node) → IsNodeAt (clauses_in p) p.depth q path n → node_kids n ≡ None → entries.outs (kept_outs paths p path) ≡ shared_plan paths p most path
   no_kids_at (nodes.Choice w kept) at h = absurd cc
-  no_kids_at nodes.Answer at h = not_choosing (is_shared limit p path) at.0
-  no_kids_at nodes.Cut at h = not_choosing (is_shared limit p path) at.0
-  no_kids_at nodes.Stuck at h = not_choosing (is_shared limit p path) at.0
-  no_kids_at nodes.Failed at h = not_choosing (is_shared limit p path) at.0
+  no_kids_at nodes.Answer at h = not_choosing (is_shared most p path) at.0
+  no_kids_at nodes.Cut at h = not_choosing (is_shared most p path) at.0
+  no_kids_at nodes.Stuck at h = not_choosing (is_shared most p path) at.0
+  no_kids_at nodes.Failed at h = not_choosing (is_shared most p path) at.0
 
   below_is : choices_below p path ≡ choices_at (clauses_in p) p.depth q path
   below_is = ap (λ o. choices_below_of (clauses_in p) p.depth o path) asked
 
 -- the same by what a visit knows of the branch
-module _ (limit : Limit) (paths : Paths) (p : Problem) (b : Branch) (n : Node) (path : List ℕ) (h : HasQuery p) (of : IsBranchOf p b) (same : path_of_branch b ≡ path) (node : ExactNode b n) where
+module _ (most : ℕ) (paths : Paths) (p : Problem) (b : Branch) (n : Node) (path : List ℕ) (h : HasQuery p) (of : IsBranchOf p b) (same : path_of_branch b ≡ path) (node : ExactNode b n) where
   asked : (q : NominalQuery) × (query_in p ≡ Some q)
   asked = its_query p h
 
@@ -142,24 +141,31 @@ module _ (limit : Limit) (paths : Paths) (p : Problem) (b : Branch) (n : Node) (
   abbrev pub AreBelow : List NominalOut → Type 0
   AreBelow os = (q : NominalQuery) → slice_get (queries_in p) (p.query - 1) ≡ Some q → os ≡ map (kept_out paths) (outs_at (clauses_in p) p.depth q (path_of_branch b))
 
-  outs_planned : (os : List NominalOut) → AreBelow os → entries.outs (kept_outs paths p path) ≡ problem_plan limit paths p path → entries.outs os ≡ problem_plan limit paths p path
+  outs_planned : (os : List NominalOut) → AreBelow os → entries.outs (kept_outs paths p path) ≡ shared_plan paths p most path → entries.outs os ≡ shared_plan paths p most path
   outs_planned os are planned =
       ap entries.outs (outs_there paths p os path h (λ q k. are q k ∙ ap (λ x. map (kept_out paths) (outs_at (clauses_in p) p.depth q x)) same)) ∙ planned
 
-  pub planned_end : {Z : Type 0} (o : Option (Vec ℕ Z)) (os : List NominalOut) → o ≡ None → kid_numbers o ≡ node_kids n → AreBelow os → entries.outs os ≡ problem_plan limit paths p path
-  planned_end o os e k are = outs_planned os are (no_kids_at limit paths p asked.0 asked.1 path n node_there (sym k ∙ ap kid_numbers e))
+  pub planned_end : {Z : Type 0} (o : Option (Vec ℕ Z)) (os : List NominalOut) → o ≡ None → kid_numbers o ≡ node_kids n → AreBelow os → entries.outs os ≡ shared_plan paths p most path
+  planned_end o os e k are = outs_planned os are (no_kids_at most paths p asked.0 asked.1 path n node_there (sym k ∙ ap kid_numbers e))
 
   pub planned_few : (os : List NominalOut) → AreBelow os
-      → ((q : NominalQuery) → slice_get (queries_in p) (p.query - 1) ≡ Some q → choices_at (clauses_in p) p.depth q (path_of_branch b) ≤ bound_at limit path)
-      → entries.outs os ≡ problem_plan limit paths p path
+      → ((q : NominalQuery) → slice_get (queries_in p) (p.query - 1) ≡ Some q → choices_at (clauses_in p) p.depth q (path_of_branch b) ≤ most)
+      → entries.outs os ≡ shared_plan paths p most path
   planned_few os are few =
       outs_planned os are
-      (few_outs limit paths p asked.0 asked.1 path
-      (subst (λ (c : ℕ). c ≤ bound_at limit path) (ap (choices_at (clauses_in p) p.depth asked.0) same ∙ sym (below_is limit paths p asked.0 asked.1 path)) (few asked.0 asked.1)))
+      (few_outs most paths p asked.0 asked.1 path
+      (subst (λ (c : ℕ). c ≤ most) (ap (choices_at (clauses_in p) p.depth asked.0) same ∙ sym (below_is most paths p asked.0 asked.1 path)) (few asked.0 asked.1)))
 
   pub planned_many : {Z : Type 0} (o : Option (Vec ℕ Z)) (v : Vec ℕ Z) → o ≡ Some v → kid_numbers o ≡ node_kids n
-      → ((q : NominalQuery) → slice_get (queries_in p) (p.query - 1) ≡ Some q → bound_at limit path < choices_at (clauses_in p) p.depth q (path_of_branch b))
-      → entries.kids v.items ≡ problem_plan limit paths p path
+      → ((q : NominalQuery) → slice_get (queries_in p) (p.query - 1) ≡ Some q → most < choices_at (clauses_in p) p.depth q (path_of_branch b))
+      → entries.kids v.items ≡ shared_plan paths p most path
   planned_many o v e k many =
-      many_kids limit paths p asked.0 asked.1 path n v.items node_there (sym k ∙ ap kid_numbers e)
-      (subst (λ (c : ℕ). bound_at limit path < c) (ap (choices_at (clauses_in p) p.depth asked.0) same ∙ sym (below_is limit paths p asked.0 asked.1 path)) (many asked.0 asked.1))
+      many_kids most paths p asked.0 asked.1 path n v.items node_there (sym k ∙ ap kid_numbers e)
+      (subst (λ (c : ℕ). most < c) (ap (choices_at (clauses_in p) p.depth asked.0) same ∙ sym (below_is most paths p asked.0 asked.1 path)) (many asked.0 asked.1))
+
+-- the outputs of a whole search are those of its path
+pub whole_outs : (paths : Paths) (p : Problem) (b : Branch) (path : List ℕ) → HasQuery p → path_of_branch b ≡ path → (os : List NominalOut)
+    → ((q : NominalQuery) → slice_get (queries_in p) (p.query - 1) ≡ Some q → os ≡ map (kept_out paths) (outs_at (clauses_in p) p.depth q (path_of_branch b)))
+    → entries.outs os ≡ entries.outs (kept_outs paths p path)
+whole_outs paths p b path h same os are =
+    ap entries.outs (outs_there paths p os path h (λ q k. are q k ∙ ap (λ x. map (kept_out paths) (outs_at (clauses_in p) p.depth q x)) same))

@@ -6,7 +6,6 @@ use Rattle.ap_defs.specs.Answers.{NominalOut}
 use Rattle.ap_defs.specs.Goals.{Clauses, NominalQuery}
 use Rattle.ap_paths.specs.Trees.{AreKids, Choices, InChoiceTree, IsPlan, IsTree, Outputs, joined_below}
 use Rattle.ap_paths.specs.Entries as entries
-use Rattle.ap_paths.specs.declared.limits.Limit.{Limit}
 use Rattle.ap_search.proofs.QueryTreeLemmas.{query_kids, query_tree}
 use Rattle.ap_backchain.specs.Ends.{kept_out}
 use Rattle.ap_backchain.specs.Problems.{clauses_in}
@@ -50,6 +49,7 @@ module _ (paths : Paths) (p : Problem) (path : List ℕ) where
   planned_if true = shared_planned (problem_kept p path) refl
   planned_if false = refl
 
-pub problem_planned : (limit : Limit) (paths : Paths) (p : Problem) (path : List ℕ) → InChoiceTree (problem_choices p) path
-    → IsPlan (problem_choices p) (kept_outs paths p) path (problem_plan limit paths p path)
-problem_planned limit paths p path there = planned_if paths p path (is_shared limit p path)
+pub problem_planned : (paths : Paths) (p : Problem) (most : Option ℕ) (path : List ℕ) → InChoiceTree (problem_choices p) path
+    → IsPlan (problem_choices p) (kept_outs paths p) path (problem_plan paths p most path)
+problem_planned paths p None path there = refl
+problem_planned paths p (Some most) path there = planned_if paths p path (is_shared most p path)

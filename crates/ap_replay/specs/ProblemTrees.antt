@@ -1,14 +1,11 @@
 -- The tree of paths of a problem.
-use Rattle.std.specs.Prelude.{◌+◌, ◌-◌, ◌*◌, ◌^◌, ℕ, zero, suc, Bool, min, nat_lt, if◌then◌else◌, List, [], length, map, Option, Some, None, Vec, slice_get}
-use Rattle.std.specs.Int.{trailing_zeros, w64}
+use Rattle.std.specs.Prelude.{◌-◌, ℕ, Bool, nat_lt, if◌then◌else◌, List, [], map, Option, Some, None, Vec, slice_get}
 use Rattle.ap_defs.specs.Answers.{NominalOut, outs_at}
 use Rattle.ap_defs.specs.Goals.{Clauses, NominalQuery}
 use Rattle.ap_defs.specs.declared.paths.Node.{Node}
 use Rattle.ap_defs.specs.declared.paths.Node.TheVariants as nodes
 use Rattle.ap_paths.specs.Entries as entries
 use Rattle.ap_paths.specs.Entries.{Plan}
-use Rattle.ap_paths.specs.declared.limits.Limit.{Limit}
-use Rattle.ap_paths.specs.declared.limits.Limit.TheVariants as limits
 use Rattle.ap_search.specs.PathTrees.{query_choices, query_kept}
 use Rattle.ap_backchain.specs.Branches.{choices_at}
 use Rattle.ap_backchain.specs.Ends.{kept_out}
@@ -55,42 +52,24 @@ choices_below_of program d (Some q) path = choices_at program d q path
 abbrev pub choices_below : Problem → List ℕ → ℕ
 choices_below p path = choices_below_of (clauses_in p) p.depth (query_in p) path
 
--- So many choices may be made by one worker alone where so many twos divide the length of the way. Where all answers are wanted it is 8,
--- 128, 2,048 and 65,536 for none, one, two and three twos, and with each further one four times as many: so all bounds on the way are
--- together at most twice the greatest of them, and what is made again on the way costs less.
-abbrev pub bound_for_all : ℕ → ℕ
-bound_for_all zero = 8
-bound_for_all (suc zero) = 128
-bound_for_all (suc (suc zero)) = 2048
-bound_for_all twos = 1024 * 2 ^ (2 * twos)
-
--- Where not all are wanted, the search may end while what is beside the way has no end: it is 32, with each of the first five twos four
--- times as many, and then twice as many.
-abbrev pub bound_by : Limit → ℕ → ℕ
-bound_by limits.All twos = bound_for_all twos
-bound_by (limits.First n) twos = 32 * 2 ^ (twos + min twos 5)
-
--- and after n on the way: none at the root
-abbrev pub bound_after : Limit → ℕ → ℕ
-bound_after limit zero = 0
-bound_after limit (suc n) = bound_by limit (min (trailing_zeros w64 (suc n)) 26)
-
-abbrev pub bound_at : Limit → List ℕ → ℕ
-bound_at limit path = bound_after limit (length path)
-
 -- a choice has the ways that it keeps as kids
 abbrev pub shared_out : Option (List ℕ) → List NominalOut → Plan
 shared_out None os = entries.outs os
 shared_out (Some ks) os = entries.kids ks
 
--- a choice is shared out that leads to more
-abbrev pub is_shared : Limit → Problem → List ℕ → Bool
-is_shared limit p path = nat_lt (bound_at limit path) (choices_below p path)
+-- a choice is shared out that leads to more than so many
+abbrev pub is_shared : ℕ → Problem → List ℕ → Bool
+is_shared most p path = nat_lt most (choices_below p path)
 
 -- all else is searched whole
-abbrev pub problem_plan : Limit → Paths → Problem → List ℕ → Plan
-problem_plan limit paths p path =
-    if is_shared limit p path then shared_out (problem_kept p path) (kept_outs paths p path) else entries.outs (kept_outs paths p path)
+abbrev pub shared_plan : Paths → Problem → ℕ → List ℕ → Plan
+shared_plan paths p most path =
+    if is_shared most p path then shared_out (problem_kept p path) (kept_outs paths p path) else entries.outs (kept_outs paths p path)
+
+-- and so is everything, where no bound is given
+abbrev pub problem_plan : Paths → Problem → Option ℕ → List ℕ → Plan
+problem_plan paths p None path = entries.outs (kept_outs paths p path)
+problem_plan paths p (Some most) path = shared_plan paths p most path
 
 -- the kids of a branch, where it is at a choice
 abbrev pub node_kids : Node → Option (List ℕ)

@@ -39,7 +39,7 @@ pub fn search_beside<R: Threads + Wait + Sync, G: Gate>(
         outs_of_runs v.items ≡ map (kept_out paths)
         (limits.part limit (query_outs (clauses_in problem.now) problem.now.depth q))) }
 {
-    let tree = ProblemTree::of(*problem, paths, limit);
+    let tree = ProblemTree::of(*problem, paths);
     let closed = search_within(rt, alloc, &tree, workers.get(), limit, gate)?;
     let runs = merge(alloc, closed)?;
     Ok(part(runs, limit))

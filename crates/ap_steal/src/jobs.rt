@@ -26,6 +26,7 @@ fn bare<W: Shape>(alloc: Global, number: u32, alone: bool, own: Owner<W>) -> Too
     Tools {
         number,
         count: 0,
+        narrow: 0,
         alone,
         own,
         others: Vec::new(alloc),

@@ -8,6 +8,7 @@
 #![tactic(auto)]
 
 mod jobs;
+mod reach;
 mod run;
 mod searching;
 mod step;

@@ -1,6 +1,6 @@
 //! One path of a worker.
 
-ghost use Rattle.std.specs.Prelude.{◌≡◌, ℕ, true, [], ◌∷◌, if◌then◌else◌, List as list, IfOk};
+ghost use Rattle.std.specs.Prelude.{◌≡◌, ℕ, true, [], ◌∷◌, if◌then◌else◌, List as list, length, IfOk};
 ghost use Rattle.ap_paths.specs.declared.entries.Entry.{Entry};
 ghost use Rattle.ap_paths.specs.Trees.{InChoiceTree};
 ghost use Rattle.ap_book.specs.Answers.{Skips};
@@ -8,7 +8,9 @@ ghost use Rattle.ap_tools.specs.Seats.{book_id, book_limit, SameSeat, IsTurn};
 ghost use Rattle.ap_tools.specs.Planned.{OwnPlanned};
 ghost use Rattle.ap_tools.specs.Order.{IsSole};
 ghost use Rattle.ap_tools.specs.Accounts.{EndsJust, NoneLost};
+ghost use Rattle.ap_steal.specs.Reach.{reach};
 
+use crate::reach::{reach_for_all, reach_for_first};
 use ap_book::SkipError;
 use ap_defs::memory::Memory;
 use ap_defs::paths::Path;
@@ -71,6 +73,18 @@ fn is_needed<R: Wait, T: Tree>(
     }
 }
 
+/// How many choices a worker makes at a path and below it, at most, before it shares out its kids.
+fn reach_of<W: Shape>(book: &SharedBook, tools: &Tools<W>, path: &Path) -> Option<u64>
+    ensures { result ≡ reach (book_limit book.now) tools.now.count tools.now.narrow
+        (length path.now) }
+{
+    let way = path.choices().len();
+    if book.has_limit() {
+        return Some(reach_for_first(way));
+    }
+    reach_for_all(tools.count, tools.narrow, way)
+}
+
 /// Visits a path, and enters what it is in the book. Its kids are the worker's own.
 fn visit_path<W: Shape, R: Wait, T: Tree>(
     rt: &R,
@@ -95,7 +109,8 @@ fn visit_path<W: Shape, R: Wait, T: Tree>(
     ensures held { IfOk result (λ _. NoneLost seat.old.number seat.old.seen tools.old
         (path.now ∷ []) seat.new.seen tools.new) }
 {
-    match visit_planned(alloc, tree, path.path()) {
+    let most = reach_of(book, tools, path.path());
+    match visit_planned(alloc, tree, path.path(), most) {
         Ok(Visit::Kids(list)) => run_kids(rt, alloc, tree, book, seat, tools, path, list.items()),
         Ok(Visit::Outs(list)) => run_outs(rt, tree, book, seat, path.path(), list),
         Err(error) => Err(error),

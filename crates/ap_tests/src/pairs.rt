@@ -155,7 +155,7 @@ impl Tree for Pairs {
 
     ghost at = { λ t. pair_at t.depth };
 
-    ghost plan = { λ t. pair_plan t.depth };
+    ghost plan = { λ t most. pair_plan t.depth };
 
     fn width(&self, _alloc: Global, path: &Path) -> Result<Option<u32>, Memory> {
         if path.choices().len() < self.depth {
@@ -172,7 +172,7 @@ impl Tree for Pairs {
         cut_at(alloc, path)
     }
 
-    fn visit(&self, alloc: Global, path: &Path) -> Result<Visit, Memory> {
+    fn visit(&self, alloc: Global, path: &Path, _most: Option<u64>) -> Result<Visit, Memory> {
         if let [k] = path.choices() {
             self.enter(*k)?;
         }
@@ -184,5 +184,5 @@ impl Tree for Pairs {
 
     ghost branches = { λ t. pair_branches t.depth };
 
-    ghost planned = { λ t. pair_planned t.depth };
+    ghost planned = { λ t most. pair_planned t.depth };
 }

@@ -9,7 +9,7 @@ use std::cmp::Ordering;
 /// How many choices the empty path of a tree has, and how many kids.
 fn widths<T: Tree>(alloc: Global, tree: &T) -> Result<(Option<u32>, usize), Memory> {
     let root = Path::root(alloc);
-    let kids = match tree.visit(alloc, &root)? {
+    let kids = match tree.visit(alloc, &root, None)? {
         Visit::Kids(kids) => kids.items().len(),
         Visit::Outs(_) => 0,
     };

@@ -3,11 +3,11 @@ use Rattle.std.proofs.Common.{◌≡◌, ◌≢◌, ℕ, zero, suc, ◌+◌, ◌
 use Rattle.std.specs.Prelude.{min}
 use mathlib.Core.Option.{some, some-injective, some-ne-none}
 use lib.ListN.{get_elem?}
-use Rattle.crossbeam_deque.specs.Tasks.{Pushes, Takes, Pops, Finds, FindsFew, Forks, Merges}
+use Rattle.crossbeam_deque.specs.Tasks.{Pushes, Takes, Pops, Finds, FindsFew, Learns, Forks, Merges}
 use Rattle.crossbeam_deque.proofs.Lists.{at_set}
 use Rattle.ap_tools.specs.declared.deques.hand.Hand.{Hand}
 use Rattle.ap_paths.specs.Weights.{weigh}
-use Rattle.ap_tools.specs.Rule.{hand, thief_hand, total, IsQuiet, AreQuiet, Balanced, PermitsEmpty, PermitsFew, Pushed, Popped, Robbed}
+use Rattle.ap_tools.specs.Rule.{hand, thief_hand, total, IsQuiet, AreQuiet, Balanced, Permits, PermitsEmpty, PermitsFew, Pushed, Popped, Robbed}
 
 pub weigh-append : (h : List ℕ → ℕ) (xs ys : List (List ℕ)) → weigh h (xs ++ ys) ≡ weigh h xs + weigh h ys
 weigh-append h [] ys = omega arith
@@ -146,6 +146,9 @@ robs port v some_part xs items views _ _ b at =
 
 pub finds : (v : Hand) → Finds Balanced 0 v (PermitsEmpty v)
 finds v views b at = (views, at, b)
+
+pub looks : (port : ℕ) (v : Hand) → Learns Balanced port v (Permits v)
+looks port v items views b at = (views, port, at, b)
 
 pub finds_few : (flavor port : ℕ) (v : Hand) → flavor ≡ 1 → v ≡ thief_hand v.stolen → FindsFew Balanced (min flavor 1) port v (PermitsFew v.stolen)
 finds_few flavor port v is known items views few b at = (items, subst (λ k. length items ≤ min k 1) is few, (views, port, at ∙ ap some known, b))

@@ -109,8 +109,8 @@ are_choices o w i [] is low up most = tt
 are_choices o w i (k ∷ ks) is low up most = (subst (λ (x : Option ℕ). IsChoice x k) (sym is) (omega arith, most.0), are_choices o w (suc k) ks is (omega arith) up.1 most.1)
 
 -- the kids of a plan ascend, and are choices
-pub kids_choices : (c : Choices) (at : Outputs) (plan : Plans) (p ks : List ℕ) → IsPlan c at p (plan p) → plan p ≡ kids ks → Ascends 1 ks × AllAreChoices (c p) ks
-kids_choices c at plan p ks good is =
+pub kids_choices : (c : Choices) (at : Outputs) (plan : Plans) (most : Option ℕ) (p ks : List ℕ) → IsPlan c at p (plan most p) → plan most p ≡ kids ks → Ascends 1 ks × AllAreChoices (c p) ks
+kids_choices c at plan most p ks good is =
     let k = subst (IsPlan c at p) is good in
     (k.2, are_choices (c p) k.0 1 ks k.1 (omega arith) k.2 k.3)
 

@@ -1,5 +1,5 @@
 -- One worker alone: its entries are in order.
-use Rattle.std.proofs.Common.{◌≡◌, ℕ, zero, suc, ◌+◌, ◌<◌, Bool, true, false, ◌||◌, eqb, if◌then◌else◌, Result, Ok, Err, IfOk, List, [], ◌∷◌, ◌++◌, length, sym, refl, ap, ◌∙◌, subst, eq-eqb, true≢false, append-nil, arith}
+use Rattle.std.proofs.Common.{◌≡◌, Option, ℕ, zero, suc, ◌+◌, ◌<◌, Bool, true, false, ◌||◌, eqb, if◌then◌else◌, Result, Ok, Err, IfOk, List, [], ◌∷◌, ◌++◌, length, sym, refl, ap, ◌∙◌, subst, eq-eqb, true≢false, append-nil, arith}
 use Rattle.ap_paths.specs.declared.entries.Entry.{Entry}
 use Rattle.ap_paths.specs.declared.entries.Entry.TheVariants.{Split, Done, Skip}
 use Rattle.ap_paths.specs.declared.runs.Run.{Run}
@@ -244,7 +244,7 @@ permitted_at c at (suc zero) h some legal quiet true_of seats order = (are_in_or
 permitted_at c at (suc (suc m)) h some legal quiet true_of seats order = is_permitted c at (suc (suc m)) h (omega arith) legal true_of quiet seats
 
 -- the history is that of a permitted list of events
-pub permitted_of : {E : Type 0} (c : Choices) (at : Outputs) (plan : Plans) (n : ℕ) (r : Result Closed E) → 0 < n → ((p : List ℕ) → InChoiceTree c p → IsPlan c at p (plan p))
+pub permitted_of : {E : Type 0} (c : Choices) (at : Outputs) (plan : Plans) (n : ℕ) (r : Result Closed E) → 0 < n → ((most : Option ℕ) (p : List ℕ) → InChoiceTree c p → IsPlan c at p (plan most p))
     → IfOk r (λ x. (is_legal (entries_of x.history) ≡ true) × (has_stop (entries_of x.history) ≡ false) × (open_of (entries_of x.history) ≡ [])) → IfOk r (λ x. ArePlanned c plan (entries_of x.history))
     → IfOk r (λ x. (x.logs ≡ logs_of n x.history) × AreSeats n (entries_of x.history)) → (n ≡ 1 → IfOk r (λ x. IsInOrder ([] ∷ []) (entries_of x.history)))
     → IfOk r (λ x. (t : WorkersState) × (events : List Event) × EventsLead c at (start_state n) events t (entries_of x.history))

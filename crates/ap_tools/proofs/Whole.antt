@@ -1,5 +1,5 @@
 -- What the history is once all workers have ended.
-use Rattle.std.proofs.Common.{◌≡◌, ◌≢◌, ℕ, zero, suc, ◌+◌, ◌<◌, ◌≤◌, ◌⊎◌, Bool, true, false, ◌||◌, eqb, if◌then◌else◌, All, List, [], ◌∷◌, ◌++◌, length, get_or, sym, refl, ap, ◌∙◌, subst, inl, inr, ⊎_elim, true≢false, ne_eqb, append-nil, add-one, take, Result, Ok, Err, IfOk, arith}
+use Rattle.std.proofs.Common.{◌≡◌, Option, ◌≢◌, ℕ, zero, suc, ◌+◌, ◌<◌, ◌≤◌, ◌⊎◌, Bool, true, false, ◌||◌, eqb, if◌then◌else◌, All, List, [], ◌∷◌, ◌++◌, length, get_or, sym, refl, ap, ◌∙◌, subst, inl, inr, ⊎_elim, true≢false, ne_eqb, append-nil, add-one, take, Result, Ok, Err, IfOk, arith}
 use Rattle.std.proofs.lemmas.Bool.{and_parts}
 use mathlib.Core.Logic.{dite}
 use native.Mathlib.Decide.{ℕ_discrete}
@@ -203,15 +203,15 @@ pub of_new : (book : TableId) (n : ℕ) (ss : List SeatView) → ss ≡ new_seat
 of_new book n ss is = (subst (λ (l : List SeatView). All (λ s. IsNewSeat book s) l) (sym is) (new_all book 0 n), ap length is ∙ new_seats-length book 0 n)
 
 -- what follows the plans of a tree is true for it
-pub planned_true : (c : Choices) (at : Outputs) (plan : Plans) (es : List TreeEntry) → ((p : List ℕ) → InChoiceTree c p → IsPlan c at p (plan p)) → ArePlanned c plan es → AreTrue c at es
+pub planned_true : (c : Choices) (at : Outputs) (plan : Plans) (es : List TreeEntry) → ((most : Option ℕ) (p : List ℕ) → InChoiceTree c p → IsPlan c at p (plan most p)) → ArePlanned c plan es → AreTrue c at es
 planned_true c at plan [] good h = tt
-planned_true c at plan (split s p ks ∷ es) good h = (subst (IsPlan c at p) h.0.1 (good p h.0.0), planned_true c at plan es good h.1)
-planned_true c at plan (done s p os ∷ es) good h = (subst (IsPlan c at p) h.0.1 (good p h.0.0), planned_true c at plan es good h.1)
+planned_true c at plan (split s p ks ∷ es) good h = (subst (IsPlan c at p) h.0.2 (good h.0.1 p h.0.0), planned_true c at plan es good h.1)
+planned_true c at plan (done s p os ∷ es) good h = (subst (IsPlan c at p) h.0.2 (good h.0.1 p h.0.0), planned_true c at plan es good h.1)
 planned_true c at plan (skip s p n ∷ es) good h = (tt, planned_true c at plan es good h.1)
 planned_true c at plan (stop s ∷ es) good h = (tt, planned_true c at plan es good h.1)
 
 -- so the merged outputs of such a history are those of the tree, as far as they are wanted
-pub whole_of : {E : Type 0} (c : Choices) (at : Outputs) (plan : Plans) (l : Limit) (r : Result Closed E) → IsTree c at → ((p : List ℕ) → InChoiceTree c p → IsPlan c at p (plan p))
+pub whole_of : {E : Type 0} (c : Choices) (at : Outputs) (plan : Plans) (l : Limit) (r : Result Closed E) → IsTree c at → ((most : Option ℕ) (p : List ℕ) → InChoiceTree c p → IsPlan c at p (plan most p))
     → IfOk r (λ x. (is_legal (entries_of x.history) ≡ true) × (has_stop (entries_of x.history) ≡ false) × (open_of (entries_of x.history) ≡ [])) → IfOk r (λ x. ArePlanned c plan (entries_of x.history)) → IfOk r (λ x. AreWithin l (entries_of x.history))
     → IfOk r (λ x. part l (merged (entries_of x.history)) ≡ part l (at []))
 whole_of c at plan l (Ok x) tree good legal planned within = merged_whole c at l (entries_of x.history) tree legal.0 (planned_true c at plan (entries_of x.history) good planned) within legal.2

@@ -12,12 +12,12 @@ use Rattle.ap_tools.specs.Turns.{maker_of}
 use Rattle.ap_tools.specs.Seats.{SeatView}
 
 abbrev pub Plans : Type 0
-Plans = List ℕ → Plan
+Plans = Option ℕ → List ℕ → Plan
 
--- the entry is by the plan of a path of the tree
+-- the entry is by a plan of a path of the tree
 abbrev pub IsPlanned : Choices → Plans → TreeEntry → Type 0
-IsPlanned c plan (split seat p ks) = InChoiceTree c p × (plan p ≡ kids ks)
-IsPlanned c plan (done seat p os) = InChoiceTree c p × (plan p ≡ outs os)
+IsPlanned c plan (split seat p ks) = InChoiceTree c p × (most : Option ℕ) × (plan most p ≡ kids ks)
+IsPlanned c plan (done seat p os) = InChoiceTree c p × (most : Option ℕ) × (plan most p ≡ outs os)
 IsPlanned c plan (skip seat p n) = InChoiceTree c p
 IsPlanned c plan (stop seat) = Unit {0}
 

@@ -1,5 +1,5 @@
 -- The rule of a deque of paths: what was pushed is what was popped, what was stolen and what the deque holds.
-use Rattle.std.specs.Prelude.{◌≡◌, ◌≢◌, ℕ, ◌+◌, ◌≤◌, List, [], ◌∷◌, ◌++◌, length}
+use Rattle.std.specs.Prelude.{◌≡◌, ◌≢◌, ℕ, ◌+◌, ◌<◌, ◌≤◌, List, [], ◌∷◌, ◌++◌, length}
 use mathlib.Core.Option.{some}
 use lib.ListN.{get_elem?}
 use Rattle.ap_paths.specs.Weights.{weigh}
@@ -33,6 +33,10 @@ Permits v items = (views : List Hand) × (port : ℕ) × (get_elem? views port �
 -- the same of the owner's view and no path
 abbrev pub PermitsEmpty : Hand → Type 0
 PermitsEmpty v = (views : List Hand) × (get_elem? views 0 ≡ some v) × Balanced [] views
+
+-- the same of a path or more
+abbrev pub HoldsSome : Hand → Type 0
+HoldsSome v = (items : List (List ℕ)) × (0 < length items) × Permits v items
 
 -- what a pass with one part knows that has stolen these, and has neither pushed nor popped
 abbrev pub thief_hand : List (List ℕ) → Hand

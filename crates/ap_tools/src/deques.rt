@@ -17,5 +17,5 @@ pub use closing::{Left, tasks};
 pub use hand::Hand;
 pub use owner::{Kept, Owner};
 pub use placed::{Placed, Shape};
-pub use rule::{Cut, Fair, Pops, Puts, Robs, Unite};
+pub use rule::{Cut, Fair, Looks, Pops, Puts, Robs, Unite};
 pub use thief::{Stolen, Thief};

@@ -1,12 +1,13 @@
 //! What a worker keeps: a hand of paths, a deque of its own, and thieves of the others' deques.
 
-ghost use Rattle.std.specs.Prelude.{◌≡◌, ℕ, ◌+◌, true, None, List as list, [], ◌∷◌, ◌++◌, IfOk, MatchOption};
+ghost use Rattle.std.specs.Prelude.{◌≡◌, ℕ, ◌+◌, ◌-◌, ◌^◌, min, if◌then◌else◌, true, None, List as list, [], ◌∷◌, ◌++◌, IfOk, MatchOption};
 ghost use Rattle.ap_paths.specs.Weights.{weigh};
 ghost use Rattle.ap_paths.specs.History.{kids_of};
 ghost use Rattle.ap_tools.specs.Planned.{AllAreChoices};
 ghost use Rattle.ap_tools.specs.Order.{KeepsWho, TookFirst};
 ghost use Rattle.ap_tools.specs.Hands.{IsFreshTools, held};
 ghost use Rattle.ap_tools.specs.Accounts.{fetched, Took};
+ghost use Rattle.ap_tools.specs.Owners.{owner_view};
 
 use crate::{Owner, Placed, Shape, Stolen, Thief};
 use ap_defs::memory::Memory;
@@ -19,6 +20,8 @@ pub struct Tools<W: Shape> {
     pub number: u32,
     // The paths that were run.
     pub count: u64,
+    // How many paths in a row left the deque empty when they were taken.
+    pub narrow: u32,
     // Whether there are no other workers. Then all paths stay in the hand.
     pub alone: bool,
     pub own: Owner<W>,
@@ -26,6 +29,13 @@ pub struct Tools<W: Shape> {
     // The thief that tried last.
     pub at: usize,
     pub hand: VecDeque<Placed<W>>,
+}
+
+/// How many paths in a row left the deque empty, after one more.
+fn narrow_after(narrow: u32, is_empty: bool) -> u32
+    ensures { result ≡ (if is_empty then min (narrow + 1) (2 ^ 32 - 1) else 0) }
+{
+    if is_empty { narrow.saturating_add(1) } else { 0 }
 }
 
 impl<W: Shape> Tools<W> {
@@ -37,10 +47,34 @@ impl<W: Shape> Tools<W> {
         ensures took { MatchOption result (Took self.old [] self.new) (λ p.
             Took self.old (p ∷ []) self.new) }
     {
+        let path = self.take()?;
+        self.look();
+        Some(path)
+    }
+
+    /// The same, without a look at what is left.
+    fn take(&mut self) -> Option<Placed<W>>
+        ensures kept { KeepsWho self.old self.new }
+        ensures first { TookFirst self.old result self.new }
+        ensures none { result ≡ None → self.old.hand.items ≡ [] }
+        ensures took { MatchOption result (Took self.old [] self.new) (λ p.
+            Took self.old (p ∷ []) self.new) }
+    {
         match self.hand.pop_front() {
             Some(path) => Some(path),
             None => self.fetch(),
         }
+    }
+
+    /// Looks whether the own deque is empty.
+    fn look(&mut self)
+        ensures kept { KeepsWho self.old self.new }
+        ensures hand { self.new.hand.items ≡ self.old.hand.items }
+        ensures own { owner_view self.new.own ≡ owner_view self.old.own }
+        ensures others { self.new.others.items ≡ self.old.others.items }
+    {
+        let is_empty = self.own.is_empty();
+        self.narrow = narrow_after(self.narrow, is_empty);
     }
 
     /// A path from the own deque, or another's.

@@ -59,7 +59,7 @@ impl Tree for Pairs {
 
     ghost at = { λ t. pair_at t.depth };
 
-    ghost plan = { λ t. pair_plan t.depth };
+    ghost plan = { λ t most. pair_plan t.depth };
 
     fn width(&self, _alloc: Global, path: &Path) -> Result<Option<u32>, Memory> {
         if path.choices().len() < self.depth {
@@ -73,7 +73,7 @@ impl Tree for Pairs {
         Err(Memory)
     }
 
-    fn visit(&self, alloc: Global, path: &Path) -> Result<Visit, Memory> {
+    fn visit(&self, alloc: Global, path: &Path, _most: Option<u64>) -> Result<Visit, Memory> {
         if path.choices().len() < self.depth {
             return Ok(Visit::Kids(List::of(Vec::from_array(alloc, [1, 2])?)));
         }
@@ -85,7 +85,7 @@ impl Tree for Pairs {
 
     ghost branches = { λ t. pair_branches t.depth };
 
-    ghost planned = { λ t. pair_planned t.depth };
+    ghost planned = { λ t most. pair_planned t.depth };
 }
 
 /// The outputs below a path, by recursion over the levels that are left.

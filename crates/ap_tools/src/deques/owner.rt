@@ -1,11 +1,11 @@
 //! The owner's side of a deque of paths.
 
-ghost use Rattle.std.specs.Prelude.{◌≡◌, ◌+◌, ◌-◌, ◌<◌, ◌≤◌, [], ◌∷◌, ◌++◌, length, vec_len, vec_capacity, IfOk, IfErr, MatchOption, MatchResult};
+ghost use Rattle.std.specs.Prelude.{◌≡◌, ◌+◌, ◌-◌, ◌<◌, ◌≤◌, true, false, [], ◌∷◌, ◌++◌, length, vec_len, vec_capacity, IfOk, IfErr, MatchOption, MatchResult};
 ghost use Rattle.crossbeam_deque.specs.Handles.{worker_flavor, worker_port, worker_view, worker_capacity, worker_index};
 
 use crate::deques::hand::Hand;
 use crate::deques::placed::{Placed, Shape};
-use crate::deques::rule::{Fair, Pops, Puts};
+use crate::deques::rule::{Fair, Looks, Pops, Puts};
 use crossbeam_deque::Worker;
 use std::alloc::Global;
 
@@ -41,6 +41,7 @@ pub struct Owner<W: Shape> {
 
 impl<W: Shape> Owner<W> {
     ghost use Rattle.ap_tools.specs.Owners.{owner_deque, owner_view, PushedOne, PoppedOne};
+    ghost use Rattle.ap_tools.specs.Rule.{Permits, HoldsSome};
 
     /// Puts a path at the back. Where there is no room for it, it comes back, and the deque is
     /// unchanged; the first 64 pushes have room.
@@ -78,5 +79,15 @@ impl<W: Shape> Owner<W> {
             self.held -= 1;
         }
         found
+    }
+
+    /// Whether the deque was empty at one moment of the call. It takes no memory.
+    pub fn is_empty(&mut self) -> bool
+        ensures same { (owner_deque self.new ≡ owner_deque self.old)
+            × (owner_view self.new ≡ owner_view self.old) }
+        ensures none { result ≡ true → Permits (owner_view self.old) [] }
+        ensures some { result ≡ false → HoldsSome (owner_view self.old) }
+    {
+        self.deque.len_as::<Looks>() == 0
     }
 }

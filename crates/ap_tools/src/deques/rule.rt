@@ -1,11 +1,11 @@
 //! The rule of a deque, and the names of its steps.
 
 ghost use Rattle.std.specs.Prelude.{◌≡◌, [], ◌+◌, ◌++◌, ◌-◌};
-ghost use Rattle.ap_tools.specs.Rule.{hand, Balanced, PermitsEmpty, PermitsFew, Pushed, Popped, Robbed};
+ghost use Rattle.ap_tools.specs.Rule.{hand, Balanced, Permits, PermitsEmpty, PermitsFew, Pushed, Popped, Robbed};
 
 use crate::deques::hand::Hand;
 use crate::deques::placed::{Placed, Shape};
-use crossbeam_deque::protocol::{Join, Outcome, Protocol, Split};
+use crossbeam_deque::protocol::{Join, Lesson, Outcome, Protocol, Split};
 
 /// The rule: what was pushed is what was popped, stolen and is there, each as often.
 pub struct Fair;
@@ -50,6 +50,13 @@ impl<W: Shape> Outcome<Placed<W>, Hand> for Pops {
     ghost then = { Popped };
 
     ghost empty = { PermitsEmpty };
+}
+
+/// The owner looks at what is there.
+pub struct Looks;
+
+impl<W: Shape> Lesson<Placed<W>, Hand> for Looks {
+    ghost fact = { Permits };
 }
 
 /// A thief takes a path, or finds at most one.
