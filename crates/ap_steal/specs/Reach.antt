@@ -1,5 +1,5 @@
 -- How far a worker searches by itself before it shares out the kids of a path.
-use Rattle.std.specs.Prelude.{◌+◌, ◌*◌, ◌^◌, ℕ, zero, suc, false, true, min, max, nat_lt, if◌then◌else◌, Option, Some, None}
+use Rattle.std.specs.Prelude.{◌+◌, ◌*◌, ◌^◌, ℕ, zero, suc, min, max, nat_lt, if◌then◌else◌, Option, Some, None}
 use Rattle.std.specs.Int.{trailing_zeros, w32, w64}
 use Rattle.ap_paths.specs.declared.limits.Limit.{Limit}
 use Rattle.ap_paths.specs.declared.limits.Limit.TheVariants as limits
