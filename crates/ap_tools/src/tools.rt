@@ -35,7 +35,11 @@ pub struct Tools<W: Shape> {
 fn narrow_after(narrow: u32, is_empty: bool) -> u32
     ensures { result ≡ (if is_empty then min (narrow + 1) (2 ^ 32 - 1) else 0) }
 {
-    if is_empty { narrow.saturating_add(1) } else { 0 }
+    if is_empty {
+        narrow.saturating_add(1)
+    } else {
+        0
+    }
 }
 
 impl<W: Shape> Tools<W> {
