@@ -9,7 +9,6 @@ use ap_defs::limits::SIZE_LIMIT;
 use ap_defs::lists::List;
 use ap_defs::memory::Memory;
 use ap_index::index::Index;
-use ap_paths::Limit;
 use ap_play::{Core, play};
 use ap_program::restricted::Restricted;
 use ap_replay::problem_tree::ProblemTree;
@@ -47,7 +46,7 @@ pub fn only_query<'a>(program: &'a Index<'_>, depth: u32) -> Option<Problem<'a>>
 fn played_by(alloc: Global, index: &Index<'_>, events: &[Event]) -> Result<Option<Core>, Memory> {
     match only_query(index, 5) {
         Some(problem) => {
-            let tree = ProblemTree::of(problem, Paths::Kept, Limit::First(1));
+            let tree = ProblemTree::of(problem, Paths::Kept);
             play(alloc, &tree, 2, events)
         }
         None => Err(Memory),
